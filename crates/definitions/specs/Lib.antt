@@ -1,0 +1,16 @@
+pub mod Prelude
+pub mod Tree
+pub mod Hash
+pub mod Entry
+pub mod Sheet
+pub mod Refusal
+pub mod NodeCache
+pub mod Builder
+pub mod Run
+pub mod Edit
+pub mod Element
+pub mod Cursor
+pub mod Identity
+pub mod Preorder
+pub mod SyntaxText
+pub mod Query
