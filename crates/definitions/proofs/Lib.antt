@@ -1,3 +1,4 @@
+pub mod Laws
 pub mod Samples
 pub mod Cases
 pub mod Examples

@@ -1,0 +1,90 @@
+// Stands for the crate rustc-hash: a hash of 64 bits takes a word at a time. rowan finds by it what it shares.
+ghost use mathlib.Core.Path.{_≡_};
+ghost use Prim.Native.Nat.{_*_, _%_, _^_};
+ghost use Rattle.definitions.specs.Hash.{rotateLeft5, addWord, tokenHash, sharableOver, nodeHash};
+use utility_types::SyntaxKind;
+
+// By halves, since a product that may not fit is refused; that of the upper halves goes wholly out.
+// LLVM sees through it, and makes one multiplication of it.
+pub fn wrapping_mul(a: u64, b: u64) -> u64
+    ensures { λ r. ⌜ r ≡ (a * b) % 2 ^ 64 ⌝ }
+{
+    let a0 = a % 0x1_0000_0000;
+    let a1 = a / 0x1_0000_0000;
+    let b0 = b % 0x1_0000_0000;
+    let b1 = b / 0x1_0000_0000;
+    let mid = std::num::wrapping_add_u64(a1 * b0, a0 * b1);
+    std::num::wrapping_add_u64(a0 * b0, (mid % 0x1_0000_0000) * 0x1_0000_0000)
+}
+
+pub fn rotate_left5(h: u64) -> u64
+    ensures { λ r. ⌜ r ≡ rotateLeft5 h ⌝ }
+{
+    (h << 5) | (h >> 59)
+}
+
+// The step of FxHasher.
+pub fn add_word(h: u64, w: u64) -> u64
+    ensures { λ r. ⌜ r ≡ addWord h w ⌝ }
+{
+    wrapping_mul(rotate_left5(h) ^ w, 0x517c_c1b7_2722_0a95)
+}
+
+// Asks only for the index, where `text[i] as u64` asks too that the byte fits.
+fn wide(b: u8) -> u64
+    ensures { λ r. ⌜ r ≡ b ⌝ }
+{
+    b as u64
+}
+
+fn kind_hash(kind: SyntaxKind) -> u64
+    ensures { λ r. ⌜ r ≡ addWord 0 (kind .0) ⌝ }
+{
+    add_word(0, kind.0 as u64)
+}
+
+// 255 ends the text, as it ends a string that Rust hashes.
+pub fn token_hash(kind: SyntaxKind, text: &[u8]) -> u64
+    ensures { λ r. ⌜ r ≡ tokenHash (kind .0) (now (text .entry)) ⌝ }
+{
+    let mut h = kind_hash(kind);
+    let mut i = 0;
+    while i < text.len() {
+        h = add_word(h, wide(text[i]));
+        i += 1;
+    }
+    add_word(h, 255)
+}
+
+// Whether a node over children of these hashes is shared: a large one is not, nor one over what is not, whose hash is 0.
+pub fn is_sharable(hashes: &[u64]) -> bool
+    ensures { λ r. ⌜ r ≡ sharableOver (now (hashes .entry)) ⌝ }
+{
+    if 3 < hashes.len() {
+        return false;
+    }
+    let mut i = 0;
+    while i < hashes.len() {
+        if hashes[i] == 0 {
+            return false;
+        }
+        i += 1;
+    }
+    true
+}
+
+// 0 where the node is not shared.
+pub fn node_hash(kind: SyntaxKind, hashes: &[u64]) -> u64
+    ensures { λ r. ⌜ r ≡ nodeHash (kind .0) (now (hashes .entry)) ⌝ }
+{
+    if !is_sharable(hashes) {
+        return 0;
+    }
+    let mut h = kind_hash(kind);
+    let mut i = 0;
+    while i < hashes.len() {
+        h = add_word(h, hashes[i]);
+        i += 1;
+    }
+    h
+}
