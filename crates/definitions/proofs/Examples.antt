@@ -31,11 +31,20 @@ use Rattle.definitions.specs.Query.{Answer, Query, at, of, maybe, maybeN
 use Rattle.definitions.specs.Query as query
 use Rattle.definitions.proofs.Samples.{Case, All, done, _and_, Event, event, tokenOf, start, finish, checkpoint, startAt, sheetOf, enough, runOn, yields, bs, blank, twelve, treeT, eventsT, textT, entriesT}
 
--- the hashes of T's "BS" and of T
+-- the hashes of T's "BS" and of T; two nodes of one hash that are spelled differently, 1 over "47EF" "tgkx" and 1 over "omao" "ijZq", are two records
+abbrev twoNodes : List Event
+twoNodes = start 5 ∷ start 1 ∷ tokenOf 2 4 ∷ tokenOf 2 4 ∷ finish ∷ start 1 ∷ tokenOf 2 4 ∷ tokenOf 2 4 ∷ finish ∷ finish ∷ []
+
+abbrev twoTexts : List ℕ
+twoTexts = 52 ∷ 55 ∷ 69 ∷ 70 ∷ 116 ∷ 103 ∷ 107 ∷ 120 ∷ 111 ∷ 109 ∷ 97 ∷ 111 ∷ 105 ∷ 106 ∷ 90 ∷ 113 ∷ []
+
 abbrev hashes : Case
 hashes =
     (hash bs ≡ 5450314206768080885)
     ∷ (hash treeT ≡ 587733500302436277)
+    ∷ (hash (treeAt (runOn [] twoNodes twoTexts .entries) 2) ≡ 8756809367707189248)
+    ∷ (hash (treeAt (runOn [] twoNodes twoTexts .entries) 5) ≡ 8756809367707189248)
+    ∷ (yields twoNodes twoTexts ≡ none ∷ none ∷ some 0 ∷ some 1 ∷ some 2 ∷ none ∷ some 3 ∷ some 4 ∷ some 5 ∷ some 6 ∷ [])
     ∷ []
 
 -- a walk's calls, in order, and what they answer
@@ -217,4 +226,4 @@ unfolding
     occurrence sameElement begin entered left atComing gives next skips skipSubtree
     textOf len slice part bytes meets chunk chunks nextChunk contains charAt equal syntaxText.findFrom syntaxText.find
     maybe maybeNumber ofNode ofSibling ofToken ask askText answer
-examples-hold = refl and refl and refl and refl and refl and refl and refl and refl and refl and refl and refl and refl and refl and refl and refl and refl and refl and refl and refl and refl and refl and refl and refl and refl and refl and refl and refl and refl and refl and refl and refl and refl and refl and refl and refl and refl and refl and refl and refl and refl and refl and refl and refl and refl and refl and refl and refl and somewhere refl refl and done
+examples-hold = refl and refl and refl and refl and refl and refl and refl and refl and refl and refl and refl and refl and refl and refl and refl and refl and refl and refl and refl and refl and refl and refl and refl and refl and refl and refl and refl and refl and refl and refl and refl and refl and refl and refl and refl and refl and refl and refl and refl and refl and refl and refl and refl and refl and refl and refl and refl and refl and refl and refl and somewhere refl refl and done

@@ -1,0 +1,38 @@
+//! Scripts made by rule: random ones from a seed, and all short sheets.
+
+pub mod collisions;
+mod edits;
+mod exhaust;
+mod paths;
+mod queries;
+mod random;
+mod script;
+mod sheets;
+
+pub use exhaust::{all_calls, all_sheets};
+pub use random::Random;
+pub use script::script;
+
+/// Which calls a script may hold, for programs that do not offer all of them.
+#[derive(Debug, Clone, Copy, PartialEq, Eq)]
+pub enum Profile {
+    /// Stores and runs of sheets.
+    Sheets,
+    /// These, and the calls under Reading and Text.
+    Reading,
+    /// All calls.
+    All,
+}
+
+impl Profile {
+    pub const NAMES: &'static str = "sheets, reading or all";
+
+    pub fn of_name(name: &str) -> Option<Profile> {
+        match name {
+            "sheets" => Some(Profile::Sheets),
+            "reading" => Some(Profile::Reading),
+            "all" => Some(Profile::All),
+            _ => None,
+        }
+    }
+}

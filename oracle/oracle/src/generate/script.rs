@@ -1,0 +1,120 @@
+//! Random scripts. A model runs beside the writing, so that most calls are put to something.
+
+use super::{
+    sheets::{random_sheet, varied, Files},
+    Profile, Random,
+};
+use crate::{
+    model::Model,
+    reply::{Refusal, Reply},
+    script::{size, Call, MAX_BYTES, MAX_SHEET, MAX_TEXT},
+};
+
+/// Room left for the largest call.
+const ENOUGH_BYTES: usize = MAX_BYTES - 150_000;
+
+pub struct Writer {
+    pub random: Random,
+    pub model: Model,
+    calls: Vec<Call>,
+    bytes: usize,
+    sheets: Vec<Files>,
+}
+
+/// The random script of this seed.
+pub fn script(seed: u64, profile: Profile) -> Vec<Call> {
+    let mut writer = Writer {
+        random: Random::new(seed),
+        model: Model::default(),
+        calls: Vec::new(),
+        bytes: 0,
+        sheets: Vec::new(),
+    };
+    let length = *writer.random.pick(&[20, 100, 300]);
+    if writer.random.chance(30) {
+        writer.store();
+    }
+    while writer.calls.len() < length && writer.bytes < ENOUGH_BYTES {
+        writer.activity(profile);
+    }
+    writer.calls
+}
+
+impl Writer {
+    pub fn put(&mut self, call: Call) -> Reply {
+        let reply = self.model.answer(&call);
+        self.bytes += size(&call);
+        self.calls.push(call);
+        reply
+    }
+
+    fn activity(&mut self, profile: Profile) {
+        let is_empty = self.model.counts().records == 0;
+        let first = self.random.below(100);
+        if first < 2 {
+            return self.store();
+        }
+        if is_empty || profile == Profile::Sheets || first < 25 {
+            return self.run();
+        }
+        if profile == Profile::All && first < 50 {
+            return match self.random.chance(4) {
+                true => self.grow(),
+                false => self.edit(),
+            };
+        }
+        match self.random.below(10) {
+            0..=2 => self.steps(),
+            3 | 4 => self.offsets(),
+            5 => self.identities(),
+            6 => self.walk(),
+            7 | 8 => self.text(),
+            _ => self.records(),
+        }
+    }
+
+    /// A new store: a small one that runs full soon, one near the limits, or any.
+    fn store(&mut self) {
+        let sizes = [
+            [6, 6, 6],
+            [60, 90, 90],
+            [300, 600, 400],
+            [70_000; 3],
+            [70_000; 3],
+        ];
+        let most = *self.random.pick(&sizes);
+        let lent = most.map(|it| self.random.below(it) as u32);
+        let [records, places, bytes] = match self.random.chance(20) {
+            true => [8_192, 16_384, 65_536],
+            false => lent,
+        };
+        self.put(Call::Store {
+            records,
+            places,
+            bytes,
+        });
+    }
+
+    /// A new sheet, one that was run before, or one like it.
+    fn run(&mut self) {
+        let files = match self.random.below(10) {
+            0..=2 if !self.sheets.is_empty() => self.random.pick(&self.sheets).clone(),
+            3 if !self.sheets.is_empty() => {
+                let before = self.random.pick(&self.sheets).clone();
+                varied(&mut self.random, &before)
+            }
+            _ => random_sheet(&mut self.random),
+        };
+        if files.0.len() > MAX_SHEET || files.1.len() > MAX_TEXT {
+            return;
+        }
+        self.sheets.push(files.clone());
+        let (sheet, text) = files;
+        let each = self.random.chance(80);
+        let reply = self.put(Call::Run { each, sheet, text });
+        // Little more happens in a full store.
+        if reply.refusal() == Some(Refusal::STORE_FULL) && self.random.chance(40) {
+            self.store();
+        }
+    }
+}

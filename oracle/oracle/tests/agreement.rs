@@ -1,0 +1,123 @@
+//! The two readings against each other: random scripts and all short sheets. The program's own
+//! commands do the same at scale.
+
+use oracle::{
+    compare::{replies, Subject, Tally},
+    generate::{all_calls, all_sheets, script, Profile},
+    model::Model,
+    reply::Reply,
+    script::{read, write, Call, MAX_BYTES},
+};
+use std::collections::BTreeSet;
+
+const ALL_REFUSALS: [u8; 12] = [1, 2, 3, 4, 5, 6, 11, 12, 13, 14, 15, 16];
+
+#[test]
+fn random_scripts() {
+    let mut tally = Tally::default();
+    for seed in 1..=150 {
+        let checked = Subject::Readings.check(&script(seed, Profile::All));
+        let checked = checked.expect("no program is run");
+        tally.add(&checked.unwrap_or_else(|it| panic!("seed {seed}: {it}")));
+    }
+    assert!(tally.calls > 10_000 && tally.events > 20_000, "{tally}");
+    let met: Vec<u8> = tally.refusals.keys().copied().collect();
+    assert_eq!(met, ALL_REFUSALS, "{tally}");
+}
+
+#[test]
+fn all_sheets_of_three_events_with_all_queries_and_edits() {
+    let (mut sheets, mut trees) = (0, 0);
+    for mut calls in all_sheets(3) {
+        let mut model = Model::default();
+        let last = calls.iter().map(|it| model.answer(it)).last();
+        let Some(Reply::Run(run)) = last else {
+            panic!("a run is last");
+        };
+        if let Ok(root) = run.outcome {
+            calls.extend(all_calls(&model, root));
+            trees += 1;
+        }
+        sheets += 1;
+        replies(&calls).unwrap_or_else(|it| panic!("{it}"));
+    }
+    assert_eq!(sheets, 1 + 8 + 64 + 512);
+    // Of two events: start and finish, in two kinds. Of three: a token between them (6), a
+    // checkpoint anywhere (6), a start before (4) or after (4); checkpoint, start at it, finish.
+    assert_eq!(trees, 2 + 6 + 6 + 4 + 4 + 1);
+}
+
+#[test]
+fn scripts_keep_their_size_and_form() {
+    for seed in 1..=300 {
+        let calls = script(seed, Profile::All);
+        assert_eq!(
+            calls,
+            script(seed, Profile::All),
+            "seed {seed} gives one script"
+        );
+        let bytes = write(&calls);
+        assert!(bytes.len() <= MAX_BYTES, "seed {seed}");
+        assert_eq!(read(&bytes).as_ref(), Ok(&calls), "seed {seed}");
+    }
+}
+
+#[test]
+fn profiles_hold_what_they_say() {
+    let ops = |profile| -> BTreeSet<u8> {
+        let scripts = (1..=60).map(|seed| write(&script(seed, profile)));
+        scripts
+            .flat_map(|it| {
+                let calls = read(&it).expect("a script");
+                calls
+                    .iter()
+                    .map(|it| write(std::slice::from_ref(it))[0])
+                    .collect::<Vec<_>>()
+            })
+            .collect()
+    };
+    let sheets = BTreeSet::from([1, 2, 3]);
+    let edits = BTreeSet::from([10, 11, 12, 13, 14]);
+    let reading: BTreeSet<u8> = (20..=38)
+        .chain(40..=42)
+        .chain(50..=58)
+        .chain(60..=61)
+        .collect();
+    assert_eq!(ops(Profile::Sheets), sheets);
+    assert_eq!(ops(Profile::Reading), &sheets | &reading);
+    assert_eq!(ops(Profile::All), &(&sheets | &reading) | &edits);
+}
+
+#[test]
+fn a_broken_script_is_told_with_its_call() {
+    let error = |words: &[u32]| {
+        let bytes: Vec<u8> = words.iter().flat_map(|it| it.to_le_bytes()).collect();
+        read(&bytes).expect_err("no script").to_string()
+    };
+    assert_eq!(error(&[41, 1, 0, 41, 1, 4]), "call 1: there is no slot 4");
+    assert_eq!(
+        error(&[41, 2, 0, 0]),
+        "call 0: call number 41 has 1 words too many"
+    );
+    assert_eq!(error(&[20, 2, 3, 1]), "call 0: 0 words are left, 1 needed");
+    assert_eq!(error(&[55, 2, 0, 256]), "call 0: 256 is no byte");
+    let deep = [&[20, 69, 3, 67][..], &[0; 67]].concat();
+    assert_eq!(error(&deep), "call 0: 67 where at most 66 are allowed");
+    let many = [&[13, 4_204, 3, 0, 0][..], &[0; 4_201]].concat();
+    assert_eq!(error(&many), "call 0: 4201 where at most 4200 are allowed");
+    assert_eq!(
+        error(&[2, 1, 33_001]),
+        "call 0: 33001 where at most 33000 are allowed"
+    );
+    assert_eq!(error(&[40, 4, 0, 2, 0, 0]), "call 0: a walk has no mode 2");
+    let odd = read(&[1, 0, 0]).expect_err("no script").to_string();
+    assert_eq!(odd, "call 0: a script is a list of 32-bit words");
+    // A call that is not known is passed over.
+    let unknown = Call::Unknown {
+        op: 99,
+        words: vec![7],
+    };
+    let bytes = write(std::slice::from_ref(&unknown));
+    assert_eq!(read(&bytes), Ok(vec![unknown.clone()]));
+    assert_eq!(replies(&[unknown]), Ok(vec![Reply::NotOffered]));
+}
