@@ -12,8 +12,8 @@ use Rattle.definitions.specs.Tree.{Tree, token, node, nil, cons, kind, i
 use Rattle.definitions.specs.Hash.{rotateLeft5, addWord, addWords, tokenHash, sharableOver, nodeHash, hash, sharable}
 use Rattle.definitions.specs.Entry.{Entry, treeAt, treesAt, childPlaces, ownBytes, textBytes}
 use Rattle.definitions.specs.Sheet.{u32At, eventCount, textLength, wordAt, operandAt, codeOf, kindOf}
-use Rattle.definitions.specs.Refusal.{isMalformed, isNoRegister, isNotZero, isAcceptable, isUnreadable, isLeftOver, isAbsent, isNoNode, isOutside, isRangeOutside, isUnfit, isUnfinished, isTooDeep, isTooMany, isTooLarge, isOverfull}
-use Rattle.definitions.specs.NodeCache.{Made, push, findFrom, reuse, share}
+use Rattle.definitions.specs.Refusal.{isMalformed, isNoRegister, isNotZero, isAcceptable, isUnreadable, isLeftOver, isAbsent, isNoNode, isOutside, isRangeOutside, isUnfit, isUnfinished, isTooDeep, isTooMany, exceedsLimits, isTooLarge, exceedsRoom, isOverfull}
+use Rattle.definitions.specs.NodeCache.{Made, push, matches, findFrom, reuse, share}
 use Rattle.definitions.specs.Builder as builder
 use Rattle.definitions.specs.Run.{End, root, taken, finished, endsAt, follows, runFrom, run}
 use Rattle.definitions.specs.Run as sheetRun
@@ -120,8 +120,8 @@ unfolding
     kind isNode childrenOf count text textLen size height sameNumbers same
     rotateLeft5 addWord addWords tokenHash sharableOver nodeHash hash sharable
     treesAt childPlaces ownBytes textBytes u32At eventCount textLength wordAt operandAt codeOf kindOf
-    isMalformed isNoRegister isNotZero isAcceptable isUnreadable isLeftOver isAbsent isNoNode isOutside isRangeOutside isUnfinished isTooDeep isTooMany isTooLarge isOverfull
-    push findFrom reuse share
+    isMalformed isNoRegister isNotZero isAcceptable isUnreadable isLeftOver isAbsent isNoNode isOutside isRangeOutside isUnfinished isTooDeep isTooMany exceedsLimits isTooLarge exceedsRoom isOverfull
+    push matches findFrom reuse share
     builder.waits builder.token builder.opens builder.startNode builder.closes builder.finishNode builder.finish
     sheetRun.event taken finished endsAt follows runFrom run
     remade replaceChild elements children along elementAt

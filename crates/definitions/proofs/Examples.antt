@@ -12,8 +12,8 @@ use Rattle.definitions.specs.Tree.{Tree, token, node, nil, cons, kind, i
 use Rattle.definitions.specs.Hash.{rotateLeft5, addWord, addWords, tokenHash, sharableOver, nodeHash, hash, sharable}
 use Rattle.definitions.specs.Entry.{Entry, treeAt, treesAt, numberAt, childPlaces, ownBytes, textBytes}
 use Rattle.definitions.specs.Sheet.{u32At, eventCount, textLength, wordAt, operandAt, codeOf, kindOf}
-use Rattle.definitions.specs.Refusal.{isMalformed, isNoRegister, isNotZero, isAcceptable, isUnreadable, isLeftOver, isAbsent, isNoNode, isOutside, isRangeOutside, isRangeBefore, isOtherKind, isUnfit, isUnfinished, isTooDeep, isTooMany, isTooLarge, isOverfull}
-use Rattle.definitions.specs.NodeCache.{Made, push, findFrom, reuse, share}
+use Rattle.definitions.specs.Refusal.{isMalformed, isNoRegister, isNotZero, isAcceptable, isUnreadable, isLeftOver, isAbsent, isNoNode, isOutside, isRangeOutside, isRangeBefore, isOtherKind, isUnfit, isUnfinished, isTooDeep, isTooMany, exceedsLimits, isTooLarge, exceedsRoom, isOverfull}
+use Rattle.definitions.specs.NodeCache.{Made, push, matches, findFrom, reuse, share}
 use Rattle.definitions.specs.Builder.{Accepted}
 use Rattle.definitions.specs.Builder as builder
 use Rattle.definitions.specs.Run.{End, root, refusedAt, taken, finished, endsAt, follows, runFrom, run}
@@ -217,8 +217,8 @@ unfolding
     rotateLeft5 addWord addWords tokenHash sharableOver nodeHash hash sharable
     treesAt numberAt childPlaces ownBytes textBytes u32At eventCount textLength wordAt operandAt codeOf kindOf
     isMalformed isNoRegister isNotZero isAcceptable isUnreadable isLeftOver isAbsent isNoNode isOutside isRangeOutside isRangeBefore isOtherKind
-    isUnfit isUnfinished isTooDeep isTooMany isTooLarge isOverfull
-    push findFrom reuse share
+    isUnfit isUnfinished isTooDeep isTooMany exceedsLimits isTooLarge exceedsRoom isOverfull
+    push matches findFrom reuse share
     builder.waits builder.token builder.opens builder.startNode builder.closes builder.finishNode builder.checkpoint builder.innermost builder.startNodeAt builder.finish
     sheetRun.event taken finished endsAt follows runFrom run
     remade replaceChild spliceChildren insertChild removeChild rebuilt replaceWith elements children along elementAt

@@ -74,11 +74,16 @@ isTooDeep parents = ltb 64 parents
 unfoldable pub isTooMany : ℕ → Bool
 isTooMany waiting = ltb 4096 waiting
 
-unfoldable pub isTooLarge : Tree → Bool
-isTooLarge t = ltb 4096 (count (childrenOf t)) || (ltb 64 (height t) || (ltb 1048576 (size t) || ltb 4294967295 (textLen t)))
+unfoldable pub exceedsLimits : ℕ → ℕ → ℕ → ℕ → Bool
+exceedsLimits children height size len = ltb 4096 children || (ltb 64 height || (ltb 1048576 size || ltb 4294967295 len))
 
--- 15: the entries need more places than are lent, or than the store ever uses
+unfoldable pub isTooLarge : Tree → Bool
+isTooLarge t = exceedsLimits (count (childrenOf t)) (height t) (size t) (textLen t)
+
+-- 15: more places needed than are lent, or than the store ever uses
+unfoldable pub exceedsRoom : Lent → ℕ → ℕ → ℕ → Bool
+exceedsRoom l records children text =
+    ltb (min (l .records) 8192) records || (ltb (min (l .children) 16384) children || ltb (min (l .text) 65536) text)
+
 unfoldable pub isOverfull : Lent → List Entry → Bool
-isOverfull l es =
-    ltb (min (l .records) 8192) (length es)
-    || (ltb (min (l .children) 16384) (childPlaces es) || ltb (min (l .text) 65536) (textBytes es))
+isOverfull l es = exceedsRoom l (length es) (childPlaces es) (textBytes es)

@@ -3,6 +3,9 @@ use Prim.Native.Nat.{ℕ}
 use mathlib.Core.Bool.{Bool, true, false}
 use Rattle.utility_types.specs.declared.Refusal.{Refusal}
 use Rattle.utility_types.specs.declared.Refusal.the-variants.{Malformed, BadEvent, BadText, NoSuchElement, OutOfRange, OtherKind, NothingOpen, UnfitCheckpoint, Unfinished, TooLarge, NoRoom, SkipBeforeFirst}
+use Rattle.definitions.specs.Prelude.{Result, ok, refused}
+use Rattle.utility_types.specs.declared.Made.{Made}
+use Rattle.utility_types.specs.declared.Made.the-variants.{Number, Refused}
 use Rattle.utility_types.specs.declared.NodeOrToken.{NodeOrToken}
 use Rattle.utility_types.specs.declared.NodeOrToken.the-variants.{Node, Token}
 
@@ -27,3 +30,7 @@ numberOf (Token n) = n
 abbrev pub isNodeOf : NodeOrToken → Bool
 isNodeOf (Node n) = true
 isNodeOf (Token n) = false
+
+abbrev pub madeNumber : Made → Result ℕ
+madeNumber (Number n) = ok n
+madeNumber (Refused r) = refused (refusalNumber r)

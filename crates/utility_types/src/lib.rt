@@ -57,3 +57,9 @@ pub enum Refusal {
     NoRoom,
     SkipBeforeFirst,
 }
+
+// What a call that makes records answers: the number of its element, or why it is turned down.
+pub enum Made {
+    Number(usize),
+    Refused(Refusal),
+}

@@ -1,0 +1,39 @@
+-- The empty store, in lent places of any lengths, is in order. Assumes nothing.
+use Prim.Native.Nat.{ℕ}
+use native.Mathlib.Omega.{arith}
+use mathlib.Core.Path.{_≡_, refl}
+use mathlib.Core.Bool.{false}
+use mathlib.Core.List.{List, [], _∷_, flatMap}
+use borrow.Author.Tests.{le-ltb}
+use lib.Dec.{ltb}
+use Rattle.definitions.specs.Entry.{childPlaces, textBytes}
+use Rattle.definitions.specs.Refusal.{exceedsRoom, isOverfull}
+use Rattle.green.specs.Layout.{allRecords, allChildren, allText}
+use Rattle.green.specs.Store.{Store, store, lent, entries, entriesTo}
+use Rattle.green.specs.Valid.{Holds, Valid}
+
+none : (n : ℕ) → ltb n 0 ≡ false
+none n = le-ltb n 0 (omega arith)
+
+module _ (records children text : List ℕ) where
+  abbrev pub empty : Store
+  empty = store records children text (0 ∷ 0 ∷ 0 ∷ [])
+
+  pub empty-entries : entries empty ≡ []
+  unfolding entries entriesTo
+  empty-entries = refl
+
+  holds : Holds empty []
+  unfolding childPlaces textBytes allRecords allChildren allText flatMap isOverfull exceedsRoom
+  holds = record {
+    counts = refl;
+    records = refl;
+    children = refl;
+    text = refl;
+    room = simp none;
+    formed = λ i l. absurd (omega arith);
+    shared = record { distinct = λ i j l m p q r e. absurd (omega arith); events = λ i l p. absurd (omega arith) };
+  }
+
+  pub empty-valid : Valid empty
+  empty-valid = rw empty-entries holds

@@ -1,0 +1,6 @@
+pub mod Lists
+pub mod Written
+pub mod Reading
+pub mod Known
+pub mod Answering
+pub mod Empty

@@ -1,0 +1,55 @@
+-- `find_token` meets its contract. Assumes nothing.
+use Prim.Native.Nat.{_-_}
+use native.Mathlib.Omega.{arith}
+use borrow.Author.Needs.{needs}
+use Rattle.definitions.specs.Tree.{token}
+use Rattle.green.specs.Store.{store}
+use Rattle.green.proofs.Known.{number-bound, known}
+use Rattle.node_cache.proofs.Finding.{Sought, sought-start, sought-hit, sought-next, sought-end}
+use Rattle.node_cache.proofs.search.find_token.Statement.{statement}
+use Rattle.node_cache.proofs.search.find_token.Tie as tie
+
+abbrev Inv-loop : tie.InvT-loop
+Inv-loop records children text used kind src hash n i₀ i = Sought (token (kind .0) src) (store records children text used) i
+
+abbrev μ-loop : tie.MeasureT-loop
+μ-loop records children text used kind src hash n i₀ i = n - i
+
+element-copy-out-n : tie.Need-element-copy-out-n Inv-loop μ-loop
+element-copy-out-n c = search needs
+
+loop-holds : tie.Need-loop-holds Inv-loop μ-loop
+loop-holds c = sought-start
+
+is-token-requires : tie.Need-is-token-requires Inv-loop μ-loop
+is-token-requires c κs = (known _ (c .before .before .before .before .before .before .before .pre .0) _ (c .loop-test .taken), c .before .before .before .before .before .before .before .pre .1)
+
+returns : tie.Need-returns Inv-loop μ-loop
+returns c = sought-hit (c .before .before .before .before .before .before .before .before .before .pre .0) (c .before .before .before .loop .inv) (c .before .before .loop-test .taken) _ (c .before .is-token .ensures) (c .if1 .taken)
+
+add-i : tie.Need-add-i Inv-loop μ-loop
+add-i c = omega (arith, number-bound _ _ (known _ (c .before .before .before .before .before .before .before .before .before .pre .0) _ (c .before .before .loop-test .taken)))
+
+loop-less : tie.Need-loop-less Inv-loop μ-loop
+loop-less c = search needs
+
+loop-again : tie.Need-loop-again Inv-loop μ-loop
+loop-again c = sought-next (c .before .before .before .before .before .before .before .before .before .pre .0) (c .before .before .before .loop .inv) (c .before .before .loop-test .taken) _ (c .before .is-token .ensures) (c .if1 .left)
+
+returns-2 : tie.Need-returns-2 Inv-loop μ-loop
+returns-2 c = sought-end (c .before .before .before .before .before .before .before .pre .0) (c .before .loop .inv) (c .loop-test .left)
+
+pub find-token-spec : {M : Type 1} → statement M
+find-token-spec =
+    tie.close
+    (tie.spec
+    Inv-loop
+    μ-loop
+    element-copy-out-n
+    loop-holds
+    is-token-requires
+    returns
+    add-i
+    loop-less
+    loop-again
+    returns-2)

@@ -1,0 +1,167 @@
+// The first record that an event made of an element spelled alike.
+// Equal hashes are not equal elements: they only save a comparison where they differ.
+
+ghost use mathlib.Core.Path.{_≡_};
+ghost use mathlib.Core.Bool.{true};
+ghost use Rattle.definitions.specs.Tree.{token, node, isNode, sameNumbers};
+ghost use Rattle.definitions.specs.Hash.{tokenHash};
+ghost use Rattle.definitions.specs.Entry.{entryAt, treeAt, treesAt};
+ghost use Rattle.definitions.specs.NodeCache.{matches, findFrom};
+ghost use Rattle.green.specs.Store.{here, entered, entries};
+ghost use Rattle.green.specs.Valid.{Valid, Known};
+ghost use Rattle.node_cache.specs.Search.{found, NodeSought};
+use green::node;
+use green::record;
+use green::token;
+use utility_types::SyntaxKind;
+
+pub enum Search {
+    Found(usize),
+    Missing,
+}
+
+fn same_bytes(a: &[u8], b: &[u8]) -> bool
+    ensures { λ r. ⌜ r ≡ sameNumbers (now (a .entry)) (now (b .entry)) ⌝ }
+{
+    if a.len() != b.len() {
+        return false;
+    }
+    let mut i = 0;
+    while i < a.len() {
+        if a[i] != b[i] {
+            return false;
+        }
+        i += 1;
+    }
+    true
+}
+
+// Whether record `i` is a token of this kind and these bytes.
+fn is_token(
+    records: &[u64],
+    children: &[u64],
+    text: &[u8],
+    used: &[usize; 3],
+    i: usize,
+    kind: SyntaxKind,
+    src: &[u8],
+    hash: u64,
+) -> bool
+    requires { ⌜ Known (here records children text used) i × (hash ≡ tokenHash (kind .0) (now src)) ⌝ }
+    ensures { λ r. ⌜ r ≡ matches (token (kind .0) (now (src .entry))) (entryAt (entries (entered records children text used)) i) ⌝ }
+{
+    if record::hash_of(records, children, text, used, i) != hash {
+        return false;
+    }
+    if record::is_node(records, children, text, used, i) {
+        return false;
+    }
+    let its = record::kind_of(records, children, text, used, i);
+    if its.0 != kind.0 {
+        return false;
+    }
+    same_bytes(src, token::text_of(records, children, text, used, i))
+}
+
+// The first token of this kind and these bytes.
+pub fn find_token(
+    records: &[u64],
+    children: &[u64],
+    text: &[u8],
+    used: &[usize; 3],
+    kind: SyntaxKind,
+    src: &[u8],
+    hash: u64,
+) -> Search
+    requires { ⌜ Valid (here records children text used) × (hash ≡ tokenHash (kind .0) (now src)) ⌝ }
+    ensures { λ r. ⌜ found r ≡ findFrom (token (kind .0) (now (src .entry))) (entries (entered records children text used)) 0 ⌝ }
+{
+    let n = used[0];
+    let mut i = 0;
+    while i < n {
+        if is_token(records, children, text, used, i, kind, src, hash) {
+            return Search::Found(i);
+        }
+        i += 1;
+    }
+    Search::Missing
+}
+
+// Whether the children of node `i` are these.
+fn same_children(
+    records: &[u64],
+    children: &[u64],
+    text: &[u8],
+    used: &[usize; 3],
+    i: usize,
+    numbers: &[u32],
+) -> bool
+    requires { ⌜ Known (here records children text used) i × (isNode (treeAt (entries (here records children text used)) i) ≡ true) ⌝ }
+    ensures { λ r. ⌜ r ≡ sameNumbers (now (numbers .entry)) (entryAt (entries (entered records children text used)) i .children) ⌝ }
+{
+    if record::count_of(records, children, text, used, i) != numbers.len() {
+        return false;
+    }
+    let mut k = 0;
+    while k < numbers.len() {
+        let child = node::nth_child(records, children, text, used, i, k);
+        if child.number != green_new::node::widen(numbers[k]) {
+            return false;
+        }
+        k += 1;
+    }
+    true
+}
+
+// Whether record `i` is a node that an event made, of this kind over children spelled like these: their numbers tell.
+fn is_node(
+    records: &[u64],
+    children: &[u64],
+    text: &[u8],
+    used: &[usize; 3],
+    i: usize,
+    kind: SyntaxKind,
+    numbers: &[u32],
+    hash: u64,
+) -> bool
+    requires { ⌜ Known (here records children text used) i ⌝ }
+    requires { ⌜ NodeSought (entries (here records children text used)) (kind .0) (now numbers) hash ⌝ }
+    ensures { λ r. ⌜ r ≡ matches (node (kind .0) (treesAt (entries (entered records children text used)) (now (numbers .entry)))) (entryAt (entries (entered records children text used)) i) ⌝ }
+{
+    if record::hash_of(records, children, text, used, i) != hash {
+        return false;
+    }
+    if record::tag_of(records, children, text, used, i) != 1 {
+        return false;
+    }
+    let its = record::kind_of(records, children, text, used, i);
+    if its.0 != kind.0 {
+        return false;
+    }
+    same_children(records, children, text, used, i, numbers)
+}
+
+// The first such node.
+pub fn find_node(
+    records: &[u64],
+    children: &[u64],
+    text: &[u8],
+    used: &[usize; 3],
+    kind: SyntaxKind,
+    numbers: &[u32],
+    hash: u64,
+) -> Search
+    requires { ⌜ Valid (here records children text used) ⌝ }
+    requires { ⌜ NodeSought (entries (here records children text used)) (kind .0) (now numbers) hash ⌝ }
+    ensures { λ r. ⌜ found r ≡ findFrom (node (kind .0) (treesAt (entries (entered records children text used)) (now (numbers .entry)))) (entries (entered records children text used)) 0 ⌝ }
+{
+    let n = used[0];
+    let mut i = 0;
+    while i < n {
+        if is_node(records, children, text, used, i, kind, numbers, hash) {
+            return Search::Found(i);
+        }
+        i += 1;
+    }
+    Search::Missing
+}
