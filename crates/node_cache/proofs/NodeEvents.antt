@@ -9,7 +9,6 @@ use Rattle.definitions.specs.Tree.{Tree, node}
 use Rattle.definitions.specs.Hash.{hash, sharable}
 use Rattle.definitions.specs.Entry.{Entry, nodeEntry, treesAt}
 use Rattle.definitions.specs.NodeCache.{findFrom, reuse, push, share}
-use Rattle.utility_types.specs.declared.Made.{Made as Answer}
 use Rattle.utility_types.specs.declared.Made.the-variants.{Number}
 use Rattle.green.specs.Store.{Store, entries, lent}
 use Rattle.green.specs.Valid.{AllBelow, AllEvents, Valid}
@@ -55,6 +54,5 @@ module _ {s : Store} (v : Valid s) (k : ℕ) (ns : List ℕ) (made : AllEvents (
         pub node-missing : r ≡ Missing → NodeFresh s true k ns h
         node-missing y = fresh (event-missing v e (sym p ∙ x) r f y)
 
-  pub node-new : {h : ℕ} → NodeFresh s true k ns h → {s′ : Store} {answer : Answer}
-      → Done s s′ (push (lent s) (entries s) (e ∷ []) (length (entries s))) answer → Done s s′ (share (lent s) (entries s) e) answer
-  node-new f d = rw (event-new v e (f .fresh refl)) d
+  pub node-new : {h : ℕ} → NodeFresh s true k ns h → share (lent s) (entries s) e ≡ push (lent s) (entries s) (e ∷ []) (length (entries s))
+  node-new f = event-new v e (f .fresh refl)

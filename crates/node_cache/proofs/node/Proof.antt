@@ -48,7 +48,7 @@ returns-2 : tie.Need-returns-2
 returns-2 c =
     let o = c .before .before .before .before .before .before .before .before .before .before .before .before .before .before .before .before .before in
     let h = c .before .before .before .before .before .before .before .before .before .hash-node .ensures in
-    node-new (o .pre .0) _ _ (o .pre .1) (⊎-elim (λ w. node-missing (o .pre .0) _ _ (o .pre .1) (h .0) (h .1) (w .0 .taken) _ (w .4 .ensures) (w .6 .given .1)) (λ w. node-rare (o .pre .0) _ _ (o .pre .1) (h .0) (h .1) (w .left)) (c .before .before .before .before .before .before .before .before .if1 .came)) (c .before .before .before .before .make-node .ensures)
+    rw (node-new (o .pre .0) _ _ (o .pre .1) (⊎-elim (λ w. node-missing (o .pre .0) _ _ (o .pre .1) (h .0) (h .1) (w .0 .taken) _ (w .4 .ensures) (w .6 .given .1)) (λ w. node-rare (o .pre .0) _ _ (o .pre .1) (h .0) (h .1) (w .left)) (c .before .before .before .before .before .before .before .before .if1 .came))) (c .before .before .before .before .make-node .ensures)
 
 pub node-spec : {M : Type 1} → statement M
 node-spec =
