@@ -1,4 +1,5 @@
-// Document 01's sheets: their numbers and their events.
+// Document 01's sheets: their numbers, their events, and the run of one.
 
 pub mod event;
 pub mod format;
+pub mod run;
