@@ -5,7 +5,7 @@ ghost use Prim.Native.Nat.{ℕ, _<_};
 ghost use Rattle.definitions.specs.Builder.{opens, innermost, startNode, checkpoint, startNodeAt, finishNode};
 ghost use Rattle.utility_types.specs.Numbers.{madeNumber};
 ghost use Rattle.green.specs.Store.{here, entered, lent};
-ghost use Rattle.builder.specs.Places.{lying, lay, builderOf, stateOf, Standing, Fitting};
+ghost use Rattle.builder.specs.Places.{builderHere, builderEntered, builderOf, stateOf, Standing, Fitting};
 ghost use Rattle.builder.specs.Stepped.{Stepped};
 use green_new::node::widen;
 use utility_types::Made;
@@ -34,9 +34,9 @@ fn open_node(
     kind: SyntaxKind,
     first: Checkpoint,
 ) -> Answer
-    requires { ⌜ Standing (here records children text used) (lying parents waiting registers counts) ⌝ }
-    requires { ⌜ Fitting (lying parents waiting registers counts) (first .0) ⌝ }
-    ensures { λ r. ⌜ Stepped (entered records children text used) (entered records children text used) (lay parents waiting registers counts) (lying (parents .exit) (waiting .entry) (registers .entry) (counts .exit)) (opens (stateOf (entered records children text used) (lay parents waiting registers counts)) (kind .0) (first .0)) r ⌝ }
+    requires { ⌜ Standing (here records children text used) (builderHere parents waiting registers counts) ⌝ }
+    requires { ⌜ Fitting (builderHere parents waiting registers counts) (first .0) ⌝ }
+    ensures { λ r. ⌜ Stepped (entered records children text used) (entered records children text used) (builderEntered parents waiting registers counts) (builderHere (parents .exit) (waiting .entry) (registers .entry) (counts .exit)) (opens (stateOf (entered records children text used) (builderEntered parents waiting registers counts)) (kind .0) (first .0)) r ⌝ }
 {
     let open = counts[0];
     if 64 <= open {
@@ -59,8 +59,8 @@ pub fn start_node(
     counts: &mut [usize; 2],
     kind: SyntaxKind,
 ) -> Answer
-    requires { ⌜ Standing (here records children text used) (lying parents waiting registers counts) ⌝ }
-    ensures { λ r. ⌜ Stepped (entered records children text used) (entered records children text used) (lay parents waiting registers counts) (lying (parents .exit) (waiting .entry) (registers .entry) (counts .exit)) (startNode (stateOf (entered records children text used) (lay parents waiting registers counts)) (kind .0)) r ⌝ }
+    requires { ⌜ Standing (here records children text used) (builderHere parents waiting registers counts) ⌝ }
+    ensures { λ r. ⌜ Stepped (entered records children text used) (entered records children text used) (builderEntered parents waiting registers counts) (builderHere (parents .exit) (waiting .entry) (registers .entry) (counts .exit)) (startNode (stateOf (entered records children text used) (builderEntered parents waiting registers counts)) (kind .0)) r ⌝ }
 {
     let first = Checkpoint(counts[1]);
     open_node(
@@ -89,9 +89,9 @@ pub fn set_checkpoint(
     counts: &[usize; 2],
     register: usize,
 ) -> Answer
-    requires { ⌜ Standing (here records children text used) (lying parents waiting registers counts) ⌝ }
+    requires { ⌜ Standing (here records children text used) (builderHere parents waiting registers counts) ⌝ }
     requires { ⌜ register < 64 ⌝ }
-    ensures { λ r. ⌜ Stepped (entered records children text used) (entered records children text used) (lay parents waiting registers counts) (lying (parents .entry) (waiting .entry) (registers .exit) (counts .entry)) (checkpoint (stateOf (entered records children text used) (lay parents waiting registers counts)) register) r ⌝ }
+    ensures { λ r. ⌜ Stepped (entered records children text used) (entered records children text used) (builderEntered parents waiting registers counts) (builderHere (parents .entry) (waiting .entry) (registers .exit) (counts .entry)) (checkpoint (stateOf (entered records children text used) (builderEntered parents waiting registers counts)) register) r ⌝ }
 {
     registers[register] = counts[1] as u32 + 1;
     Answer::Accepted
@@ -108,8 +108,8 @@ fn innermost_first(
     registers: &[u32],
     counts: &[usize; 2],
 ) -> usize
-    requires { ⌜ Standing (here records children text used) (lying parents waiting registers counts) ⌝ }
-    ensures { λ r. ⌜ r ≡ innermost (builderOf (lay parents waiting registers counts) .parents) ⌝ }
+    requires { ⌜ Standing (here records children text used) (builderHere parents waiting registers counts) ⌝ }
+    ensures { λ r. ⌜ r ≡ innermost (builderOf (builderEntered parents waiting registers counts) .parents) ⌝ }
 {
     let open = counts[0];
     if open == 0 {
@@ -131,9 +131,9 @@ pub fn start_node_at(
     kind: SyntaxKind,
     register: usize,
 ) -> Answer
-    requires { ⌜ Standing (here records children text used) (lying parents waiting registers counts) ⌝ }
+    requires { ⌜ Standing (here records children text used) (builderHere parents waiting registers counts) ⌝ }
     requires { ⌜ register < 64 ⌝ }
-    ensures { λ r. ⌜ Stepped (entered records children text used) (entered records children text used) (lay parents waiting registers counts) (lying (parents .exit) (waiting .entry) (registers .entry) (counts .exit)) (startNodeAt (stateOf (entered records children text used) (lay parents waiting registers counts)) (kind .0) register) r ⌝ }
+    ensures { λ r. ⌜ Stepped (entered records children text used) (entered records children text used) (builderEntered parents waiting registers counts) (builderHere (parents .exit) (waiting .entry) (registers .entry) (counts .exit)) (startNodeAt (stateOf (entered records children text used) (builderEntered parents waiting registers counts)) (kind .0) register) r ⌝ }
 {
     let set = widen(registers[register]);
     if set == 0 {
@@ -183,8 +183,8 @@ pub fn token(
     kind: SyntaxKind,
     src: &[u8],
 ) -> Answer
-    requires { ⌜ Standing (here records children text used) (lying parents waiting registers counts) ⌝ }
-    ensures { λ r. ⌜ Stepped (entered records children text used) (here (records .exit) (children .entry) (text .exit) (used .exit)) (lay parents waiting registers counts) (lying (parents .entry) (waiting .exit) (registers .entry) (counts .exit)) (Rattle.definitions.specs.Builder.token (lent (entered records children text used)) (stateOf (entered records children text used) (lay parents waiting registers counts)) (kind .0) (now (src .entry))) r ⌝ }
+    requires { ⌜ Standing (here records children text used) (builderHere parents waiting registers counts) ⌝ }
+    ensures { λ r. ⌜ Stepped (entered records children text used) (here (records .exit) (children .entry) (text .exit) (used .exit)) (builderEntered parents waiting registers counts) (builderHere (parents .entry) (waiting .exit) (registers .entry) (counts .exit)) (Rattle.definitions.specs.Builder.token (lent (entered records children text used)) (stateOf (entered records children text used) (builderEntered parents waiting registers counts)) (kind .0) (now (src .entry))) r ⌝ }
 {
     let w = counts[1];
     if 4096 <= w {
@@ -212,8 +212,8 @@ pub fn finish_node(
     registers: &[u32],
     counts: &mut [usize; 2],
 ) -> Answer
-    requires { ⌜ Standing (here records children text used) (lying parents waiting registers counts) ⌝ }
-    ensures { λ r. ⌜ Stepped (entered records children text used) (here (records .exit) (children .exit) (text .entry) (used .exit)) (lay parents waiting registers counts) (lying (parents .entry) (waiting .exit) (registers .entry) (counts .exit)) (finishNode (lent (entered records children text used)) (stateOf (entered records children text used) (lay parents waiting registers counts))) r ⌝ }
+    requires { ⌜ Standing (here records children text used) (builderHere parents waiting registers counts) ⌝ }
+    ensures { λ r. ⌜ Stepped (entered records children text used) (here (records .exit) (children .exit) (text .entry) (used .exit)) (builderEntered parents waiting registers counts) (builderHere (parents .entry) (waiting .exit) (registers .entry) (counts .exit)) (finishNode (lent (entered records children text used)) (stateOf (entered records children text used) (builderEntered parents waiting registers counts))) r ⌝ }
 {
     let open = counts[0];
     if open == 0 {
@@ -248,8 +248,8 @@ pub fn finish(
     registers: &[u32],
     counts: &[usize; 2],
 ) -> Made
-    requires { ⌜ Standing (here records children text used) (lying parents waiting registers counts) ⌝ }
-    ensures { λ r. ⌜ madeNumber r ≡ Rattle.definitions.specs.Builder.finish (stateOf (entered records children text used) (lay parents waiting registers counts)) ⌝ }
+    requires { ⌜ Standing (here records children text used) (builderHere parents waiting registers counts) ⌝ }
+    ensures { λ r. ⌜ madeNumber r ≡ Rattle.definitions.specs.Builder.finish (stateOf (entered records children text used) (builderEntered parents waiting registers counts)) ⌝ }
 {
     if counts[1] != 1 {
         return Made::Refused(Refusal::Unfinished);

@@ -6,7 +6,7 @@ ghost use Rattle.definitions.specs.Refusal.{isAcceptable};
 ghost use Rattle.definitions.specs.Run.{event as eventOf};
 ghost use Rattle.definitions.specs.Sheet.{codeOf, kindOf};
 ghost use Rattle.green.specs.Store.{here, entered, lent};
-ghost use Rattle.builder.specs.Places.{lying, lay, stateOf, Standing};
+ghost use Rattle.builder.specs.Places.{builderHere, builderEntered, stateOf, Standing};
 ghost use Rattle.builder.specs.Stepped.{Stepped};
 use builder::state;
 use builder::state::Answer;
@@ -40,8 +40,8 @@ fn token_event(
     len: usize,
     left: &[u8],
 ) -> Answer
-    requires { ⌜ Standing (here records children text used) (lying parents waiting registers counts) ⌝ }
-    ensures { λ r. ⌜ Stepped (entered records children text used) (here (records .exit) (children .entry) (text .exit) (used .exit)) (lay parents waiting registers counts) (lying (parents .entry) (waiting .exit) (registers .entry) (counts .exit)) (eventOf (lent (entered records children text used)) (stateOf (entered records children text used) (lay parents waiting registers counts)) 1 (kind .0) len (now (left .entry))) r ⌝ }
+    requires { ⌜ Standing (here records children text used) (builderHere parents waiting registers counts) ⌝ }
+    ensures { λ r. ⌜ Stepped (entered records children text used) (here (records .exit) (children .entry) (text .exit) (used .exit)) (builderEntered parents waiting registers counts) (builderHere (parents .entry) (waiting .exit) (registers .entry) (counts .exit)) (eventOf (lent (entered records children text used)) (stateOf (entered records children text used) (builderEntered parents waiting registers counts)) 1 (kind .0) len (now (left .entry))) r ⌝ }
 {
     if left.len() < len {
         return Answer::Refused(Refusal::BadText);
@@ -76,8 +76,8 @@ fn start_event(
     operand: usize,
     left: &[u8],
 ) -> Answer
-    requires { ⌜ Standing (here records children text used) (lying parents waiting registers counts) ⌝ }
-    ensures { λ r. ⌜ Stepped (entered records children text used) (entered records children text used) (lay parents waiting registers counts) (lying (parents .exit) (waiting .entry) (registers .entry) (counts .exit)) (eventOf (lent (entered records children text used)) (stateOf (entered records children text used) (lay parents waiting registers counts)) 2 (kind .0) operand (now (left .entry))) r ⌝ }
+    requires { ⌜ Standing (here records children text used) (builderHere parents waiting registers counts) ⌝ }
+    ensures { λ r. ⌜ Stepped (entered records children text used) (entered records children text used) (builderEntered parents waiting registers counts) (builderHere (parents .exit) (waiting .entry) (registers .entry) (counts .exit)) (eventOf (lent (entered records children text used)) (stateOf (entered records children text used) (builderEntered parents waiting registers counts)) 2 (kind .0) operand (now (left .entry))) r ⌝ }
 {
     if operand != 0 {
         return Answer::Refused(Refusal::BadEvent);
@@ -108,8 +108,8 @@ fn finish_event(
     operand: usize,
     left: &[u8],
 ) -> Answer
-    requires { ⌜ Standing (here records children text used) (lying parents waiting registers counts) ⌝ }
-    ensures { λ r. ⌜ Stepped (entered records children text used) (here (records .exit) (children .exit) (text .entry) (used .exit)) (lay parents waiting registers counts) (lying (parents .entry) (waiting .exit) (registers .entry) (counts .exit)) (eventOf (lent (entered records children text used)) (stateOf (entered records children text used) (lay parents waiting registers counts)) 3 (kind .0) operand (now (left .entry))) r ⌝ }
+    requires { ⌜ Standing (here records children text used) (builderHere parents waiting registers counts) ⌝ }
+    ensures { λ r. ⌜ Stepped (entered records children text used) (here (records .exit) (children .exit) (text .entry) (used .exit)) (builderEntered parents waiting registers counts) (builderHere (parents .entry) (waiting .exit) (registers .entry) (counts .exit)) (eventOf (lent (entered records children text used)) (stateOf (entered records children text used) (builderEntered parents waiting registers counts)) 3 (kind .0) operand (now (left .entry))) r ⌝ }
 {
     if kind.0 != 0 {
         return Answer::Refused(Refusal::BadEvent);
@@ -142,8 +142,8 @@ fn checkpoint_event(
     register: usize,
     left: &[u8],
 ) -> Answer
-    requires { ⌜ Standing (here records children text used) (lying parents waiting registers counts) ⌝ }
-    ensures { λ r. ⌜ Stepped (entered records children text used) (entered records children text used) (lay parents waiting registers counts) (lying (parents .entry) (waiting .entry) (registers .exit) (counts .entry)) (eventOf (lent (entered records children text used)) (stateOf (entered records children text used) (lay parents waiting registers counts)) 4 (kind .0) register (now (left .entry))) r ⌝ }
+    requires { ⌜ Standing (here records children text used) (builderHere parents waiting registers counts) ⌝ }
+    ensures { λ r. ⌜ Stepped (entered records children text used) (entered records children text used) (builderEntered parents waiting registers counts) (builderHere (parents .entry) (waiting .entry) (registers .exit) (counts .entry)) (eventOf (lent (entered records children text used)) (stateOf (entered records children text used) (builderEntered parents waiting registers counts)) 4 (kind .0) register (now (left .entry))) r ⌝ }
 {
     if kind.0 != 0 {
         return Answer::Refused(Refusal::BadEvent);
@@ -177,8 +177,8 @@ fn start_at_event(
     register: usize,
     left: &[u8],
 ) -> Answer
-    requires { ⌜ Standing (here records children text used) (lying parents waiting registers counts) ⌝ }
-    ensures { λ r. ⌜ Stepped (entered records children text used) (entered records children text used) (lay parents waiting registers counts) (lying (parents .exit) (waiting .entry) (registers .entry) (counts .exit)) (eventOf (lent (entered records children text used)) (stateOf (entered records children text used) (lay parents waiting registers counts)) 5 (kind .0) register (now (left .entry))) r ⌝ }
+    requires { ⌜ Standing (here records children text used) (builderHere parents waiting registers counts) ⌝ }
+    ensures { λ r. ⌜ Stepped (entered records children text used) (entered records children text used) (builderEntered parents waiting registers counts) (builderHere (parents .exit) (waiting .entry) (registers .entry) (counts .exit)) (eventOf (lent (entered records children text used)) (stateOf (entered records children text used) (builderEntered parents waiting registers counts)) 5 (kind .0) register (now (left .entry))) r ⌝ }
 {
     if 63 < register {
         return Answer::Refused(Refusal::BadEvent);
@@ -211,8 +211,8 @@ pub fn event(
     operand: u32,
     left: &[u8],
 ) -> Answer
-    requires { ⌜ Standing (here records children text used) (lying parents waiting registers counts) ⌝ }
-    ensures { λ r. ⌜ Stepped (entered records children text used) (here (records .exit) (children .exit) (text .exit) (used .exit)) (lay parents waiting registers counts) (lying (parents .exit) (waiting .exit) (registers .exit) (counts .exit)) (eventOf (lent (entered records children text used)) (stateOf (entered records children text used) (lay parents waiting registers counts)) (codeOf word) (kindOf word) operand (now (left .entry))) r ⌝ }
+    requires { ⌜ Standing (here records children text used) (builderHere parents waiting registers counts) ⌝ }
+    ensures { λ r. ⌜ Stepped (entered records children text used) (here (records .exit) (children .exit) (text .exit) (used .exit)) (builderEntered parents waiting registers counts) (builderHere (parents .exit) (waiting .exit) (registers .exit) (counts .exit)) (eventOf (lent (entered records children text used)) (stateOf (entered records children text used) (builderEntered parents waiting registers counts)) (codeOf word) (kindOf word) operand (now (left .entry))) r ⌝ }
 {
     let code = word / 65536;
     let kind = SyntaxKind((word % 65536) as u16);

@@ -9,7 +9,7 @@ ghost use Rattle.definitions.specs.Builder.{new};
 ghost use Rattle.definitions.specs.Run.{taken as takenOf, endsAt, run as runOf};
 ghost use Rattle.green.specs.Store.{here, entered, entries, lent};
 ghost use Rattle.green.specs.Valid.{Valid};
-ghost use Rattle.builder.specs.Places.{lying, lay, builderOf, stateOf, Standing};
+ghost use Rattle.builder.specs.Places.{builderHere, builderEntered, builderOf, stateOf, Standing};
 ghost use Rattle.sheet.specs.Ran.{refusal, refusalIn, endOf, Roomy, Ran};
 use crate::event;
 use crate::format;
@@ -75,8 +75,8 @@ fn end_run(
     left: &[u8],
     n: usize,
 ) -> Ended
-    requires { ⌜ Standing (here records children text used) (lying parents waiting registers counts) ⌝ }
-    ensures { λ r. ⌜ endOf r ≡ endsAt (stateOf (entered records children text used) (lay parents waiting registers counts)) n (now (left .entry)) .end ⌝ }
+    requires { ⌜ Standing (here records children text used) (builderHere parents waiting registers counts) ⌝ }
+    ensures { λ r. ⌜ endOf r ≡ endsAt (stateOf (entered records children text used) (builderEntered parents waiting registers counts)) n (now (left .entry)) .end ⌝ }
 {
     if 0 < left.len() {
         return Ended::Refused(Refusal::BadText, n);
@@ -109,9 +109,9 @@ fn run_events(
     sheet: &[u8],
     source: &[u8],
 ) -> Ended
-    requires { ⌜ Standing (here records children text used) (lying parents waiting registers counts) ⌝ }
-    requires { ⌜ (isMalformed (now sheet) (now source) ≡ false) × (builderOf (lying parents waiting registers counts) ≡ new) ⌝ }
-    ensures { λ r. ⌜ Ran (entered records children text used) (here (records .exit) (children .exit) (text .exit) (used .exit)) (lying (parents .exit) (waiting .exit) (registers .exit) (counts .exit)) (runOf (lent (entered records children text used)) (entries (entered records children text used)) (now (sheet .entry)) (now (source .entry))) r ⌝ }
+    requires { ⌜ Standing (here records children text used) (builderHere parents waiting registers counts) ⌝ }
+    requires { ⌜ (isMalformed (now sheet) (now source) ≡ false) × (builderOf (builderHere parents waiting registers counts) ≡ new) ⌝ }
+    ensures { λ r. ⌜ Ran (entered records children text used) (here (records .exit) (children .exit) (text .exit) (used .exit)) (builderHere (parents .exit) (waiting .exit) (registers .exit) (counts .exit)) (runOf (lent (entered records children text used)) (entries (entered records children text used)) (now (sheet .entry)) (now (source .entry))) r ⌝ }
 {
     let n = format::u32_at(sheet, 0) as usize;
     let mut at: usize = 0;
@@ -166,8 +166,8 @@ pub fn run(
     sheet: &[u8],
     source: &[u8],
 ) -> Ended
-    requires { ⌜ Valid (here records children text used) × Roomy (lying parents waiting registers counts) ⌝ }
-    ensures { λ r. ⌜ Ran (entered records children text used) (here (records .exit) (children .exit) (text .exit) (used .exit)) (lying (parents .exit) (waiting .exit) (registers .exit) (counts .exit)) (runOf (lent (entered records children text used)) (entries (entered records children text used)) (now (sheet .entry)) (now (source .entry))) r ⌝ }
+    requires { ⌜ Valid (here records children text used) × Roomy (builderHere parents waiting registers counts) ⌝ }
+    ensures { λ r. ⌜ Ran (entered records children text used) (here (records .exit) (children .exit) (text .exit) (used .exit)) (builderHere (parents .exit) (waiting .exit) (registers .exit) (counts .exit)) (runOf (lent (entered records children text used)) (entries (entered records children text used)) (now (sheet .entry)) (now (source .entry))) r ⌝ }
 {
     if format::is_malformed(sheet, source) {
         return Ended::Refused(Refusal::Malformed, 0);
