@@ -47,7 +47,7 @@ fn list(records: &mut [u64], children: &mut [u64], text: &mut [u8], words: &[u8]
         Ended::Root(root) => walk::print(records, children, text, &used, root),
         Ended::Refused(why, event) => {
             io::write_all(STDOUT_FILENO, b"refused ");
-            io::print_decimal(STDOUT_FILENO, walk::number(why));
+            io::print_decimal(STDOUT_FILENO, utility_types::refusal_number(why));
             walk::put_number(b" event ", event);
             io::write_all(STDOUT_FILENO, b"\n");
         }

@@ -9,25 +9,6 @@ use green::node;
 use green::node::ChildAt;
 use libc::STDOUT_FILENO;
 use std::num::wrapping_add_usize;
-use utility_types::Refusal;
-
-// Document 01's number of a refusal.
-pub fn number(why: Refusal) -> u64 {
-    match why {
-        Refusal::Malformed => 1,
-        Refusal::BadEvent => 2,
-        Refusal::BadText => 3,
-        Refusal::NoSuchElement => 4,
-        Refusal::OutOfRange => 5,
-        Refusal::OtherKind => 6,
-        Refusal::NothingOpen => 11,
-        Refusal::UnfitCheckpoint => 12,
-        Refusal::Unfinished => 13,
-        Refusal::TooLarge => 14,
-        Refusal::NoRoom => 15,
-        Refusal::SkipBeforeFirst => 16,
-    }
-}
 
 pub fn put_number(before: &[u8], n: usize) {
     io::write_all(STDOUT_FILENO, before);

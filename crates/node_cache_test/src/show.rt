@@ -1,10 +1,7 @@
 // What the lines are printed with.
 
-ghost use mathlib.Core.Path.{_≡_};
-ghost use Rattle.utility_types.specs.Numbers.{refusalNumber};
 use libc::STDOUT_FILENO;
 use utility_types::Made;
-use utility_types::Refusal;
 
 pub fn put(s: &[u8]) {
     io::write_all(STDOUT_FILENO, s);
@@ -19,26 +16,6 @@ pub fn put_count(n: usize) {
     put_number(n as u64);
 }
 
-// Document 01's number of a refusal.
-fn refusal_number(r: Refusal) -> u64
-    ensures { λ n. ⌜ n ≡ refusalNumber r ⌝ }
-{
-    match r {
-        Refusal::Malformed => 1,
-        Refusal::BadEvent => 2,
-        Refusal::BadText => 3,
-        Refusal::NoSuchElement => 4,
-        Refusal::OutOfRange => 5,
-        Refusal::OtherKind => 6,
-        Refusal::NothingOpen => 11,
-        Refusal::UnfitCheckpoint => 12,
-        Refusal::Unfinished => 13,
-        Refusal::TooLarge => 14,
-        Refusal::NoRoom => 15,
-        Refusal::SkipBeforeFirst => 16,
-    }
-}
-
 fn put_made(made: Made) {
     match made {
         Made::Number(n) => {
@@ -47,7 +24,7 @@ fn put_made(made: Made) {
         }
         Made::Refused(r) => {
             put(b" refused");
-            put_number(refusal_number(r));
+            put_number(utility_types::refusal_number(r));
         }
     }
 }

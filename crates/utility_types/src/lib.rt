@@ -1,6 +1,9 @@
 // rowan's utility_types.rs, and the types of the answers that every crate above shares.
 // specs/ says of each what document 01 means by it.
 
+ghost use mathlib.Core.Path.{_≡_};
+ghost use Rattle.utility_types.specs.Numbers.{refusalNumber};
+
 // A kind, as in rowan: a number of 16 bits, told apart from other numbers by its type.
 pub struct SyntaxKind(pub u16);
 
@@ -56,6 +59,26 @@ pub enum Refusal {
     TooLarge,
     NoRoom,
     SkipBeforeFirst,
+}
+
+// Document 01's number of a refusal.
+pub fn refusal_number(r: Refusal) -> u64
+    ensures { λ n. ⌜ n ≡ refusalNumber r ⌝ }
+{
+    match r {
+        Refusal::Malformed => 1,
+        Refusal::BadEvent => 2,
+        Refusal::BadText => 3,
+        Refusal::NoSuchElement => 4,
+        Refusal::OutOfRange => 5,
+        Refusal::OtherKind => 6,
+        Refusal::NothingOpen => 11,
+        Refusal::UnfitCheckpoint => 12,
+        Refusal::Unfinished => 13,
+        Refusal::TooLarge => 14,
+        Refusal::NoRoom => 15,
+        Refusal::SkipBeforeFirst => 16,
+    }
 }
 
 // What a call that makes records answers: the number of its element, or why it is turned down.

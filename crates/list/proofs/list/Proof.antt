@@ -22,8 +22,8 @@ slice-aggregate-write-all c = search needs
 write-all-requires : tie.Need-write-all-requires
 write-all-requires c κs = search needs
 
-number-requires : tie.Need-number-requires
-number-requires c κs = search needs
+refusal-number-requires : tie.Need-refusal-number-requires
+refusal-number-requires c κs = search needs
 
 print-decimal-requires : tie.Need-print-decimal-requires
 print-decimal-requires c κs = search needs
@@ -74,7 +74,7 @@ list-spec =
     enum-known-ended-2
     slice-aggregate-write-all
     write-all-requires
-    number-requires
+    refusal-number-requires
     print-decimal-requires
     slice-aggregate-put-number
     put-number-requires
