@@ -1,5 +1,6 @@
 pub mod Lists
 pub mod Written
+pub mod Offsets
 pub mod Reading
 pub mod Known
 pub mod Answering

@@ -1,4 +1,4 @@
--- The offsets of children, and what `put_children` has written when it has written some. Assumes nothing.
+-- What `put_children` has written when it has written some. Assumes nothing.
 use Prim.Native.Nat.{ℕ, zero, suc, _+_, _*_, _^_, _≤_, _<_}
 use native.Mathlib.Omega.{arith}
 use native.Mathlib.Numerals.{add-one}
@@ -14,26 +14,9 @@ use Rattle.green.specs.Store.{Store, entries}
 use Rattle.green.specs.Valid.{AllBelow, Valid, Known}
 use Rattle.green_new.specs.Ready.{PlacesReady}
 use Rattle.green.proofs.Written.{childWords-at, childWords-length}
+use Rattle.green.proofs.Offsets.{offset-zero, offset-next, offset-most}
 use Rattle.green.proofs.Known.{record-bound, field, count-children, number-bound}
 use Rattle.green.proofs.Answering.{below-at}
-
-offset-zero : (f : Forest) → offsetOf f 0 ≡ 0
-unfolding offsetOf
-offset-zero nil = refl
-offset-zero (cons t f) = refl
-
-offset-next : (es : List Entry) (ns : List ℕ) (k : ℕ) → k < length ns
-    → offsetOf (treesAt es ns) (suc k) ≡ offsetOf (treesAt es ns) k + textLen (treeAt es (getD ns k 0))
-unfolding offsetOf treesAt
-offset-next es [] k h = absurd (omega arith)
-offset-next es (n ∷ ns) zero h = omega (arith, offset-zero (treesAt es ns))
-offset-next es (n ∷ ns) (suc k) h = omega (arith, offset-next es ns k (omega arith))
-
-offset-most : (f : Forest) (k : ℕ) → offsetOf f k ≤ textLens f
-unfolding offsetOf textLens
-offset-most nil k = omega arith
-offset-most (cons t f) zero = omega arith
-offset-most (cons t f) (suc k) = omega (arith, offset-most f k)
 
 -- after i turns of the loop
 pub record Put (s : Store) (ns children : List ℕ) (offset i : ℕ) : Type 0 where
