@@ -1,0 +1,3 @@
+// The queries of rowan's cursor.rs that look for an offset or a range among a node's children.
+
+pub mod search;
