@@ -1,3 +1,4 @@
 pub mod Elements
 pub mod Positions
 pub mod Telling
+pub mod Paths
