@@ -38,6 +38,10 @@ pub element-told : {l l′ : List ℕ} {o : Option Element} {e : Element} {x : S
 unfolding maybe option
 element-told p q r = record { says = rw (p, q); kept = r }
 
+-- the same question in other words
+pub told-as : {l l′ : List ℕ} {a b : Result query.Answer} {r : Answer} → Tells l l′ a r → a ≡ b → Tells l l′ b r
+told-as t e = rw (← e) t
+
 -- child_answer
 module _ {s : Store} {c : Cursor} {k : ℕ} {l : List ℕ} where
   pub no-child-told : Inner s c → {n : ℕ} → n ≡ childCount (entries s) c → n ≤ k → Tells l l (maybe (getElem? (children (at (entries s) (take (c .depth) l) c)) k)) None

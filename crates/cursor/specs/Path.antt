@@ -70,3 +70,8 @@ locatedAt es depth l (At x) = some (at es (take depth l) (x .at))
 abbrev pub Standing : Store → Side → ℕ → ℕ → List ℕ → Located → Type 0
 Standing s side r depth l Nowhere = Unit {0}
 Standing s side r depth l (At x) = Stands s side r depth l x
+
+-- x is where the path leads
+pub record Leads (s : Store) (side : Side) (r depth : ℕ) (l : List ℕ) (x : Located) : Type 0 where
+  pub says : locatedAt (entries s) depth l x ≡ named (entries s) r depth l
+  pub stands : Standing s side r depth l x

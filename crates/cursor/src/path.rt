@@ -7,7 +7,7 @@ ghost use Rattle.definitions.specs.Entry.{treeAt};
 ghost use Rattle.definitions.specs.Element.{root as rootOf, along};
 ghost use Rattle.green.specs.Store.{here, entered, entries};
 ghost use Rattle.green.specs.Valid.{Valid, Known};
-ghost use Rattle.cursor.specs.Path.{named, hasBeside as besideOf, locatedAt, Standing};
+ghost use Rattle.cursor.specs.Path.{hasBeside as besideOf, locatedAt, Standing, Leads};
 use crate::position;
 use crate::position::Cursor;
 use green::record;
@@ -106,8 +106,7 @@ pub fn locate(
     side: Side,
 ) -> Located
     requires { ⌜ Valid (here records children text used) × (64 ≤ length (now path)) ⌝ }
-    ensures { λ r. ⌜ locatedAt (entries (entered records children text used)) depth (now (path .entry)) r ≡ named (entries (entered records children text used)) root depth (now (path .entry)) ⌝ }
-    ensures { λ r. ⌜ Standing (entered records children text used) side root depth (now (path .entry)) r ⌝ }
+    ensures { λ r. ⌜ Leads (entered records children text used) side root depth (now (path .entry)) r ⌝ }
 {
     if 64 < depth {
         return Located::Nowhere;

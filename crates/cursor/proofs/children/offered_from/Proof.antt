@@ -1,0 +1,71 @@
+-- `offered_from` meets its contract. Assumes nothing.
+use Prim.Native.Nat.{_-_}
+use native.Mathlib.Omega.{arith}
+use mathlib.Core.Path.{sym, ap, _∙_}
+use Rattle.green.specs.Store.{store}
+use Rattle.utility_types.specs.Numbers.{isNodeOf}
+use Rattle.cursor.proofs.Offering.{Passed, none-passed, all-offered, pass-token, stop-node, stop-end}
+use borrow.Author.Needs.{needs}
+use Rattle.cursor.proofs.children.offered_from.Statement.{statement}
+use Rattle.cursor.proofs.children.offered_from.Tie as tie
+
+abbrev Inv-loop : tie.InvT-loop
+Inv-loop records children text used at tokens from count i₀ i = Passed (store records children text used) at from i
+
+abbrev μ-loop : tie.MeasureT-loop
+μ-loop records children text used at tokens from count i₀ i = count - i
+
+returns : tie.Need-returns Inv-loop μ-loop
+returns c = all-offered (c .before .before .before .before .pre .0) (c .if1 .taken) (c .before .before .before .before .args .from)
+
+child-count-requires : tie.Need-child-count-requires Inv-loop μ-loop
+child-count-requires c κs = search needs
+
+loop-holds : tie.Need-loop-holds Inv-loop μ-loop
+loop-holds c = none-passed (c .before .before .before .before .before .pre .1)
+
+child-requires : tie.Need-child-requires Inv-loop μ-loop
+child-requires c κs = (c .before .before .before .before .before .before .before .pre .0, omega (arith, c .before .before .child-count .ensures .0, c .loop-test .taken))
+
+node-or-token-requires : tie.Need-node-or-token-requires Inv-loop μ-loop
+node-or-token-requires c κs = c .child .ensures .placed
+
+enum-told : tie.Need-enum-told Inv-loop μ-loop
+enum-told c = search needs
+
+enum-told-2 : tie.Need-enum-told-2 Inv-loop μ-loop
+enum-told-2 c = search needs
+
+returns-2 : tie.Need-returns-2 Inv-loop μ-loop
+returns-2 c = stop-node (c .before .before .before .before .before .loop .inv) (omega (arith, c .before .before .before .before .before .before .child-count .ensures .0, c .before .before .before .before .loop-test .taken)) (c .before .before .before .child .ensures) (c .before .before .before .before .before .before .before .if1 .left) (sym (c .before .before .node-or-token .ensures .1) ∙ ap isNodeOf (c .enum-told2 .given .1))
+
+add-i : tie.Need-add-i Inv-loop μ-loop
+add-i c = search needs
+
+loop-less : tie.Need-loop-less Inv-loop μ-loop
+loop-less c = search needs
+
+loop-again : tie.Need-loop-again Inv-loop μ-loop
+loop-again c = pass-token (c .before .before .before .before .before .loop .inv) (omega (arith, c .before .before .before .before .before .before .child-count .ensures .0, c .before .before .before .before .loop-test .taken)) (c .before .before .before .child .ensures) (sym (c .before .before .node-or-token .ensures .1) ∙ ap isNodeOf (c .enum-told .given .1))
+
+returns-3 : tie.Need-returns-3 Inv-loop μ-loop
+returns-3 c = stop-end (c .before .loop .inv) (c .before .before .before .if1 .left) (c .before .before .before .before .before .before .before .pre .0) (omega (arith, c .before .before .child-count .ensures .0, c .loop-test .left))
+
+pub offered-from-spec : {M : Type 1} → statement M
+offered-from-spec =
+    tie.close
+    (tie.spec
+    Inv-loop
+    μ-loop
+    returns
+    child-count-requires
+    loop-holds
+    child-requires
+    node-or-token-requires
+    enum-told
+    enum-told-2
+    returns-2
+    add-i
+    loop-less
+    loop-again
+    returns-3)

@@ -1,0 +1,168 @@
+// A node's children and an element's siblings, with tokens or nodes only.
+
+ghost use Prim.Native.Nat.{ℕ, _≤_};
+ghost use lib.ListN.{length, take};
+ghost use Rattle.definitions.specs.Element.{children as childrenIn};
+ghost use Rattle.definitions.specs.Cursor.{before};
+ghost use Rattle.definitions.specs.Query.{Question, maybe};
+ghost use Rattle.green.specs.Store.{here, entered, entries};
+ghost use Rattle.green.specs.Valid.{Valid};
+ghost use Rattle.cursor.specs.Position.{at as elementAt, Inner, childCount};
+ghost use Rattle.cursor.specs.Children.{FirstFrom, LastBefore};
+ghost use Rattle.cursor.specs.Answers.{Tells, asked};
+use crate::path;
+use crate::path::Located;
+use crate::path::Parent;
+use crate::path::Side;
+use crate::position;
+use crate::position::Answer;
+use crate::position::Cursor;
+use utility_types::NodeOrToken;
+use utility_types::Refusal;
+
+// The first child from `from` on that is a node, or any if tokens count; the number of children if there is none.
+pub fn offered_from(
+    records: &[u64],
+    children: &[u64],
+    text: &[u8],
+    used: &[usize; 3],
+    at: Cursor,
+    tokens: bool,
+    from: usize,
+) -> usize
+    requires { ⌜ Inner (here records children text used) at × (from ≤ childCount (entries (here records children text used)) at) ⌝ }
+    ensures { λ r. ⌜ FirstFrom (entries (entered records children text used)) at tokens from r ⌝ }
+{
+    if tokens {
+        return from;
+    }
+    let count = position::child_count(records, children, text, used, at);
+    let mut i = from;
+    while i < count {
+        let child = position::child(records, children, text, used, at, i);
+        let NodeOrToken::Token(_) = position::node_or_token(records, children, text, used, child)
+        else {
+            return i;
+        };
+        i += 1;
+    }
+    i
+}
+
+// One past the last such child below `to`; 0 if there is none.
+pub fn offered_before(
+    records: &[u64],
+    children: &[u64],
+    text: &[u8],
+    used: &[usize; 3],
+    at: Cursor,
+    tokens: bool,
+    to: usize,
+) -> usize
+    requires { ⌜ Inner (here records children text used) at × (to ≤ childCount (entries (here records children text used)) at) ⌝ }
+    ensures { λ r. ⌜ LastBefore (entries (entered records children text used)) at tokens to r ⌝ }
+{
+    if tokens {
+        return to;
+    }
+    let mut i = to;
+    while 0 < i {
+        let child = position::child(records, children, text, used, at, i - 1);
+        let NodeOrToken::Token(_) = position::node_or_token(records, children, text, used, child)
+        else {
+            return i;
+        };
+        i -= 1;
+    }
+    i
+}
+
+// The answer that the child before child `k` is, if there is one.
+fn before_answer(
+    records: &[u64],
+    children: &[u64],
+    text: &[u8],
+    used: &[usize; 3],
+    at: Cursor,
+    k: usize,
+    path: &mut [u32],
+) -> Answer
+    requires { ⌜ Inner (here records children text used) at × (64 ≤ length (now path)) ⌝ }
+    ensures { λ r. ⌜ Tells (now (path .entry)) (now (path .exit)) (maybe (before (childrenIn (elementAt (entries (entered records children text used)) (take (at .depth) (now (path .entry))) at)) k)) r ⌝ }
+{
+    if k == 0 {
+        return Answer::None;
+    }
+    position::child_answer(records, children, text, used, at, k - 1, path)
+}
+
+// The first child, or the first that is a node.
+fn first_offered(
+    records: &[u64],
+    children: &[u64],
+    text: &[u8],
+    used: &[usize; 3],
+    root: usize,
+    path: &mut [u32; 64],
+    depth: usize,
+    tokens: bool,
+) -> Answer
+    requires { ⌜ Valid (here records children text used) ⌝ }
+    ensures { λ r. ⌜ Tells (now (path .entry)) (now (path .exit)) (asked (entries (entered records children text used)) root depth (now (path .entry)) (Question.firstChild tokens)) r ⌝ }
+{
+    let found = path::locate(
+        records,
+        children,
+        text,
+        used,
+        root,
+        path,
+        depth,
+        Side::Either,
+    );
+    let Located::At(place) = found else {
+        return Answer::Refused(Refusal::NoSuchElement);
+    };
+    let at = place.at;
+    let NodeOrToken::Node(_) = position::node_or_token(records, children, text, used, at) else {
+        return Answer::Refused(Refusal::NoSuchElement);
+    };
+    let k = offered_from(records, children, text, used, at, tokens, 0);
+    position::child_answer(records, children, text, used, at, k, path)
+}
+
+// The last child, or the last that is a node.
+fn last_offered(
+    records: &[u64],
+    children: &[u64],
+    text: &[u8],
+    used: &[usize; 3],
+    root: usize,
+    path: &mut [u32; 64],
+    depth: usize,
+    tokens: bool,
+) -> Answer
+    requires { ⌜ Valid (here records children text used) ⌝ }
+    ensures { λ r. ⌜ Tells (now (path .entry)) (now (path .exit)) (asked (entries (entered records children text used)) root depth (now (path .entry)) (Question.lastChild tokens)) r ⌝ }
+{
+    let found = path::locate(
+        records,
+        children,
+        text,
+        used,
+        root,
+        path,
+        depth,
+        Side::Either,
+    );
+    let Located::At(place) = found else {
+        return Answer::Refused(Refusal::NoSuchElement);
+    };
+    let at = place.at;
+    let NodeOrToken::Node(_) = position::node_or_token(records, children, text, used, at) else {
+        return Answer::Refused(Refusal::NoSuchElement);
+    };
+    let count = position::child_count(records, children, text, used, at);
+    let k = offered_before(records, children, text, used, at, tokens, count);
+    before_answer(records, children, text, used, at, k, path)
+}
