@@ -29,6 +29,9 @@ use Rattle.cursor.specs.declared.path.Located.the-variants.{At, Nowhere}
 use Rattle.cursor.specs.Position.{at, Placed, Inner}
 use Rattle.cursor.specs.Path.{named, locatedAt, Standing, Stands, Leads}
 use Rattle.cursor.specs.Answers.{Tells, asked}
+use Rattle.definitions.proofs.Laws.{false≢true}
+use Rattle.definitions.proofs.Limits.{or-false}
+use Rattle.cursor.proofs.Branching.{none≢some}
 
 -- what is asked is asked of the element that is named
 by-tests : (f : Element → Result query.Answer) (o : Option Element) (a b t : Bool)
@@ -43,6 +46,16 @@ asked-named : (es : List Entry) (r depth : ℕ) (l : List ℕ) (q : Question) �
 unfolding asked named query.answerAt query.answer elementAt isNoNode
 asked-named es r depth l q =
     by-tests (λ e. ask (treeAt es r) e q) (along (take depth l) (root (treeAt es r))) (ltb 64 depth) (ltb r (length es)) (isNode (treeAt es r))
+
+-- an element is named only where there is a root that is a node
+named-some : (b : Bool) (o : Option Element) {e : Element} → some e ≡ cond b none o → (b ≡ false) × (o ≡ some e)
+named-some true o h = absurd (none≢some (sym h))
+named-some false o h = (refl, sym h)
+
+node-there : (b t : Bool) → not (b && t) ≡ false → t ≡ true
+node-there true true h = refl
+node-there true false h = absurd (false≢true (sym h))
+node-there false t h = absurd (false≢true (sym h))
 
 module _ {s : Store} {side : Side} {r depth : ℕ} {l : List ℕ} {x : Located} (d : Leads s side r depth l x) where
   pub nowhere-asked : x ≡ Nowhere → (q : Question) → Tells l l (asked (entries s) r depth l q) (Refused NoSuchElement)
@@ -60,6 +73,20 @@ module _ {s : Store} {side : Side} {r depth : ℕ} {l : List ℕ} {x : Located} 
     asked-of q =
         let n : some (at (entries s) (take depth l) (p .at)) ≡ named (entries s) r depth l = sym (ap (locatedAt (entries s) depth l) h) ∙ d .says in
         asked-named (entries s) r depth l q ∙ rw (← n) refl
+
+    abbrev it : Element
+    it = at (entries s) (take depth l) (p .at)
+
+    there : (ltb 64 depth || isNoNode (entries s) r ≡ false) × (along (take depth l) (root (treeAt (entries s) r)) ≡ some it)
+    unfolding named
+    there = named-some (ltb 64 depth || isNoNode (entries s) r) (along (take depth l) (root (treeAt (entries s) r))) (sym (ap (locatedAt (entries s) depth l) h) ∙ d .says)
+
+    pub leads-along : along (take depth l) (root (treeAt (entries s) r)) ≡ some it
+    leads-along = there .1
+
+    pub root-is-node : isNode (treeAt (entries s) r) ≡ true
+    unfolding isNoNode
+    root-is-node = node-there (ltb r (length (entries s))) (isNode (treeAt (entries s) r)) (or-false (ltb 64 depth) (isNoNode (entries s) r) (there .0) .1)
 
 -- a call that needs a node, put to a node or to a token
 module _ {s : Store} {c : Cursor} (k : Placed s c) {x : NodeOrToken} (e : (numberOf x ≡ c .number) × (isNodeOf x ≡ isNode (treeAt (entries s) (c .number)))) {m : ℕ} where

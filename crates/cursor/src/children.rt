@@ -1,6 +1,7 @@
-// A node's children and an element's siblings, with tokens or nodes only.
+// A node's first and last child, with tokens or nodes only.
 
 ghost use Prim.Native.Nat.{ℕ, _≤_};
+ghost use mathlib.Core.Bool.{true, false};
 ghost use lib.ListN.{length, take};
 ghost use Rattle.definitions.specs.Element.{children as childrenIn};
 ghost use Rattle.definitions.specs.Cursor.{before};
@@ -12,7 +13,6 @@ ghost use Rattle.cursor.specs.Children.{FirstFrom, LastBefore};
 ghost use Rattle.cursor.specs.Answers.{Tells, asked};
 use crate::path;
 use crate::path::Located;
-use crate::path::Parent;
 use crate::path::Side;
 use crate::position;
 use crate::position::Answer;
@@ -78,7 +78,7 @@ pub fn offered_before(
 }
 
 // The answer that the child before child `k` is, if there is one.
-fn before_answer(
+pub fn before_answer(
     records: &[u64],
     children: &[u64],
     text: &[u8],
@@ -96,7 +96,7 @@ fn before_answer(
     position::child_answer(records, children, text, used, at, k - 1, path)
 }
 
-// The first child, or the first that is a node.
+// The first child that is offered.
 fn first_offered(
     records: &[u64],
     children: &[u64],
@@ -131,7 +131,7 @@ fn first_offered(
     position::child_answer(records, children, text, used, at, k, path)
 }
 
-// The last child, or the last that is a node.
+// The last child that is offered.
 fn last_offered(
     records: &[u64],
     children: &[u64],
@@ -165,4 +165,68 @@ fn last_offered(
     let count = position::child_count(records, children, text, used, at);
     let k = offered_before(records, children, text, used, at, tokens, count);
     before_answer(records, children, text, used, at, k, path)
+}
+
+// The first child that is a node.
+pub fn first_child(
+    records: &[u64],
+    children: &[u64],
+    text: &[u8],
+    used: &[usize; 3],
+    root: usize,
+    path: &mut [u32; 64],
+    depth: usize,
+) -> Answer
+    requires { ⌜ Valid (here records children text used) ⌝ }
+    ensures { λ r. ⌜ Tells (now (path .entry)) (now (path .exit)) (asked (entries (entered records children text used)) root depth (now (path .entry)) (Question.firstChild false)) r ⌝ }
+{
+    first_offered(records, children, text, used, root, path, depth, false)
+}
+
+// The first child.
+pub fn first_child_or_token(
+    records: &[u64],
+    children: &[u64],
+    text: &[u8],
+    used: &[usize; 3],
+    root: usize,
+    path: &mut [u32; 64],
+    depth: usize,
+) -> Answer
+    requires { ⌜ Valid (here records children text used) ⌝ }
+    ensures { λ r. ⌜ Tells (now (path .entry)) (now (path .exit)) (asked (entries (entered records children text used)) root depth (now (path .entry)) (Question.firstChild true)) r ⌝ }
+{
+    first_offered(records, children, text, used, root, path, depth, true)
+}
+
+// The last child that is a node.
+pub fn last_child(
+    records: &[u64],
+    children: &[u64],
+    text: &[u8],
+    used: &[usize; 3],
+    root: usize,
+    path: &mut [u32; 64],
+    depth: usize,
+) -> Answer
+    requires { ⌜ Valid (here records children text used) ⌝ }
+    ensures { λ r. ⌜ Tells (now (path .entry)) (now (path .exit)) (asked (entries (entered records children text used)) root depth (now (path .entry)) (Question.lastChild false)) r ⌝ }
+{
+    last_offered(records, children, text, used, root, path, depth, false)
+}
+
+// The last child.
+pub fn last_child_or_token(
+    records: &[u64],
+    children: &[u64],
+    text: &[u8],
+    used: &[usize; 3],
+    root: usize,
+    path: &mut [u32; 64],
+    depth: usize,
+) -> Answer
+    requires { ⌜ Valid (here records children text used) ⌝ }
+    ensures { λ r. ⌜ Tells (now (path .entry)) (now (path .exit)) (asked (entries (entered records children text used)) root depth (now (path .entry)) (Question.lastChild true)) r ⌝ }
+{
+    last_offered(records, children, text, used, root, path, depth, true)
 }
