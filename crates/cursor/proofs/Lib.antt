@@ -2,8 +2,5 @@ pub mod Elements
 pub mod Positions
 pub mod Telling
 pub mod Paths
-pub mod Offering
 pub mod Branching
 pub mod Asking
-pub mod Kin
-pub mod Family

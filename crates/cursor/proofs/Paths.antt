@@ -11,7 +11,7 @@ use borrow.Author.Tests.{lt-ltb, le-ltb}
 use lib.ListN.{length, getD, getElem?, take, drop, drop-of-length-le}
 use lib.Seq.{take-suc, drop-cons, length-take-le, getD-take}
 use Rattle.definitions.specs.Tree.{Tree, token, node, isNode, childrenOf}
-use Rattle.definitions.specs.Entry.{Entry, treeAt}
+use Rattle.definitions.specs.Entry.{Entry, entryAt, treeAt, numberAt}
 use Rattle.definitions.specs.Refusal.{isNoNode}
 use Rattle.definitions.specs.Element.{Element, root, elements, children, along}
 use Rattle.definitions.proofs.Laws.{false≢true}
@@ -28,6 +28,7 @@ use Rattle.cursor.specs.declared.path.Parent.{Parent}
 use Rattle.cursor.specs.declared.path.Parent.the-variants.{Of, NoParent}
 use Rattle.cursor.specs.Position.{at, Placed, Inner, childCount, ChildAt}
 use Rattle.cursor.specs.Path.{named, hasBeside, Branch, branch, branchOf, Above, Remembered, Stands}
+use Rattle.cursor.proofs.Elements.{node-height}
 use Rattle.cursor.proofs.Positions.{children-count}
 use Rattle.cursor.proofs.Telling.{past-end}
 
@@ -49,6 +50,12 @@ unfolding orElse
 or-or none y z = refl
 or-or (some a) y z = refl
 
+-- what stands at an index of a list
+some-at : (xs : List ℕ) (i : ℕ) → i < length xs → getElem? xs i ≡ some (getD xs i 0)
+some-at [] i h = absurd (omega arith)
+some-at (x ∷ xs) zero h = refl
+some-at (x ∷ xs) (suc i) h = some-at xs i (omega arith)
+
 pub token-childless : (e : Element) → isNode (e .tree) ≡ false → children e ≡ []
 unfolding children elements childrenOf isNode
 token-childless e h = go (e .tree) h
@@ -62,6 +69,7 @@ pub record Gone (s : Store) (side : Side) (r depth : ℕ) (l : List ℕ) (c : Cu
   pub within : d ≤ depth
   pub deep : c .depth ≡ d
   pub placed : Placed s c
+  pub numbers : numberAt (entries s) r (take depth l) ≡ numberAt (entries s) (c .number) (drop d (take depth l))
   pub rest : along (take depth l) (root (treeAt (entries s) r)) ≡ along (drop d (take depth l)) (at (entries s) (take d l) c)
   pub branches : branch side (take depth l) (root (treeAt (entries s) r)) ≡ orElse (branch side (drop d (take depth l)) (at (entries s) (take d l) c)) (branchOf (entries s) l p)
   pub remembers : Remembered s side d l p
@@ -78,6 +86,7 @@ gone-none {s} {side} {r} {depth} {l} k =
       within = omega arith;
       deep = refl;
       placed = record { known = k; deep = omega (arith, z .height); far = omega (arith, z .len) };
+      numbers = refl;
       rest = refl;
       branches = or-none (branch side (take depth l) (root (treeAt (entries s) r)));
       remembers = tt;
@@ -122,6 +131,10 @@ module _ {s : Store} {side : Side} {r depth : ℕ} {l : List ℕ} {c : Cursor} {
       unfolding along bind
       on-path = g .rest ∙ rw (goes-on, steps) refl
 
+      same-number : numberAt es r (take depth l) ≡ numberAt es (c′ .number) (drop (d + 1) (take depth l))
+      unfolding numberAt bind
+      same-number = g .numbers ∙ rw (goes-on, ← ek, some-at (entryAt es (c .number) .children) k m, ← a .number) refl
+
       branch-here : branch side (drop d (take depth l)) e
           ≡ orElse (branch side (drop (d + 1) (take depth l)) e′) (cond (hasBeside side k (childCount es c)) (some (record { node = e; index = k })) none)
       unfolding branch bind
@@ -134,6 +147,7 @@ module _ {s : Store} {side : Side} {r depth : ℕ} {l : List ℕ} {c : Cursor} {
         within = omega arith;
         deep = a .depth ∙ ap (λ x. x + 1) (g .deep);
         placed = a .placed;
+        numbers = same-number;
         rest = on-path;
         branches = g .branches ∙ ap (λ x. orElse x (branchOf es l p)) branch-here
             ∙ or-or (branch side (drop (d + 1) (take depth l)) e′) (cond (hasBeside side k (childCount es c)) (some (record { node = e; index = k })) none) (branchOf es l p)
@@ -167,13 +181,18 @@ module _ {s : Store} {side : Side} {r depth : ℕ} {l : List ℕ} {c : Cursor} {
   arrived = sym (g .rest ∙ rw (nothing-left, done) refl)
 
   pub stands : Stands s side r depth l (record { at = c; parent = p })
-  unfolding branch orElse
+  unfolding branch orElse numberAt
   stands = record {
     placed = g .placed;
     deep = g .deep ∙ done;
+    number = g .numbers ∙ rw nothing-left refl;
     branch = g .branches ∙ rw nothing-left refl;
     parent = rw (← done) (g .remembers);
   }
+
+-- a node on a path has a level below it
+pub above-level : {s : Store} {side : Side} {depth : ℕ} {l : List ℕ} {c : Cursor} → Above s side depth l c → c .depth < 64
+above-level {s} {side} {depth} {l} {c} a = omega (arith, a .inner .placed .deep, node-height (treeAt (entries s) (c .number)) (a .inner .node))
 
 -- locate, by its tests
 module _ {s : Store} (v : Valid s) (r depth : ℕ) (l : List ℕ) where

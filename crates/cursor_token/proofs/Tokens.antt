@@ -31,7 +31,7 @@ use Rattle.cursor.specs.declared.path.Located.the-variants.{At}
 use Rattle.cursor.specs.Position.{at, Placed, Inner, childCount}
 use Rattle.cursor.specs.Path.{hasBeside, Branch, branch, branchOf, Above, Leads}
 use Rattle.cursor.specs.Answers.{Tells, asked}
-use Rattle.cursor.proofs.Elements.{node-height}
+use Rattle.cursor.proofs.Paths.{above-level}
 use Rattle.cursor.proofs.Telling.{none-told, element-told}
 use Rattle.cursor.proofs.Branching.{next, prev, following-branch, preceding-branch}
 use Rattle.cursor.proofs.Asking.{stood, asked-of, leads-along}
@@ -126,7 +126,7 @@ module _ {s : Store} (direction : Direction) {z : Side} {r depth : ℕ} {l : Lis
     above = subst (λ y. Rattle.cursor.specs.Path.Remembered s (sideOf direction) depth l y) m (stood d h .parent)
 
     pub parent-level : c .depth < 64
-    parent-level = omega (arith, above .inner .placed .deep, node-height (treeAt es (c .number)) (above .inner .node))
+    parent-level = above-level above
 
     abbrev i : ℕ
     i = getD l (c .depth) 0
