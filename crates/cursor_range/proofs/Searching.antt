@@ -8,7 +8,7 @@ use Rattle.green.specs.Layout.{offsetOf}
 use Rattle.green.proofs.Offsets.{offset-zero}
 use Rattle.cursor.specs.declared.position.Cursor.{Cursor}
 use Rattle.cursor.specs.Position.{childCount}
-use Rattle.cursor_range.specs.Search.{startOf, Partition}
+use Rattle.cursor_range.specs.Search.{startOf, Narrowed, Partition}
 
 offset-rises : (f : Forest) (j k : ℕ) → j ≤ k → offsetOf f j ≤ offsetOf f k
 unfolding offsetOf
@@ -19,13 +19,6 @@ offset-rises (cons t f) (suc j) (suc k) h = omega (arith, offset-rises f j k (om
 
 pub start-rises : (es : List Entry) (c : Cursor) (j k : ℕ) → j ≤ k → startOf es c j ≤ startOf es c k
 start-rises es c j k h = omega (arith, offset-rises (childrenOf (treeAt es (c .number))) j k h)
-
--- what is left to search: the children below `low` start before x, and those from `high` on do not
-pub record Narrowed (es : List Entry) (c : Cursor) (x low high : ℕ) : Type 0 where
-  pub ordered : low ≤ high
-  pub most : high ≤ childCount es c
-  pub before : (k : ℕ) → k < low → startOf es c k < x
-  pub after : (k : ℕ) → high ≤ k → k < childCount es c → x ≤ startOf es c k
 
 pub all-left : {es : List Entry} {c : Cursor} {x : ℕ} → Narrowed es c x 0 (childCount es c)
 all-left = record { ordered = omega arith; most = omega arith; before = λ k h. absurd (omega arith); after = λ k h g. absurd (omega arith) }
