@@ -1,2 +1,5 @@
 pub mod Searching
 pub mod Starts
+pub mod Finding
+pub mod Ranges
+pub mod Choosing
