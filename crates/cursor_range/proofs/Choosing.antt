@@ -68,9 +68,9 @@ module _ {s : Store} {c : Cursor} (i : Inner s c) where
 
       pub short-chosen : {m : ℕ} → r .start + n < b → m ≡ childCount es c → Chosen es c a b m
       short-chosen l g = rw g (none-chosen (λ m h f. ⊎-elim
-        (λ (o : m < j). omega (arith, ends, start-rises es c (suc m) (suc k) (omega arith)))
-        (λ (o : j ≤ m). absurd (omega (arith, p .after m o h)))
-        (side m j)))
+          (λ (o : m < j). omega (arith, ends, start-rises es c (suc m) (suc k) (omega arith)))
+          (λ (o : j ≤ m). absurd (omega (arith, p .after m o h)))
+          (side m j)))
 
       pub last-chosen : b ≤ r .start + n → (0 < k → r .start ≡ b → b < r .start + n → ⊥) → Chosen es c a b k
       last-chosen l only = record {

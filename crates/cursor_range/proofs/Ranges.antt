@@ -90,9 +90,9 @@ module _ (e : Element) {from : ℕ → ℕ} (s : Adjoining (children e) from) (a
   none-at ab h = ⊎-elim
       (λ (l : a < b). rw (lt-ltb a b l) (find-none _ (children e) (s .listed) (λ k g. contained-not k g (h k g))))
       (λ (l : b ≤ a). rw (le-ltb a b l) (third-of _
-        (find-none _ (children e) (s .listed) (λ k g. within-not k g (λ f. omega (arith, h k g (omega arith)))))
-        (findLast-none _ (children e) (s .listed) (λ k g. ends-not k g (λ f. omega (arith, s .rises k (suc k) (omega arith), h k g (omega (arith, s .rises k (suc k) (omega arith)))))))
-        ∙ starts-not (children e) a (s .listed) (λ g f. omega (arith, s .start 0 g, s .rises 0 1 (omega arith), h 0 g (omega (arith, s .start 0 g))))))
+      (find-none _ (children e) (s .listed) (λ k g. within-not k g (λ f. omega (arith, h k g (omega arith)))))
+      (findLast-none _ (children e) (s .listed) (λ k g. ends-not k g (λ f. omega (arith, s .rises k (suc k) (omega arith), h k g (omega (arith, s .rises k (suc k) (omega arith)))))))
+      ∙ starts-not (children e) a (s .listed) (λ g f. omega (arith, s .start 0 g, s .rises 0 1 (omega arith), h 0 g (omega (arith, s .start 0 g))))))
       (side a b)
 
   -- the cases in which child k is the one
@@ -134,16 +134,16 @@ module _ (e : Element) {from : ℕ → ℕ} (s : Adjoining (children e) from) (a
   last-at zero h ab p q later only = ⊎-elim
       (λ (l : a < b). containing 0 h l p q)
       (λ (l : b ≤ a). ⊎-elim
-        (λ (m : a < from 1). ⊎-elim (λ (o : from 0 < a). around 0 h l o m) (λ (o : a ≤ from 0). first-there l h (omega arith) m) (side (from 0) a))
-        (λ (m : from 1 ≤ a). last-to-end 0 h l (omega arith) (λ j g i. omega (arith, later j g i, s .rises j (suc j) (omega arith))))
-        (side a (from 1)))
+      (λ (m : a < from 1). ⊎-elim (λ (o : from 0 < a). around 0 h l o m) (λ (o : a ≤ from 0). first-there l h (omega arith) m) (side (from 0) a))
+      (λ (m : from 1 ≤ a). last-to-end 0 h l (omega arith) (λ j g i. omega (arith, later j g i, s .rises j (suc j) (omega arith))))
+      (side a (from 1)))
       (side a b)
   last-at (suc k) h ab p q later only = ⊎-elim
       (λ (l : a < b). containing (suc k) h l p q)
       (λ (l : b ≤ a). ⊎-elim
-        (λ (m : a < from (suc (suc k))). around (suc k) h l (⊎-elim (λ (o : from (suc k) < a). o) (λ (o : a ≤ from (suc k)). absurd (only (omega arith) (omega arith) (omega arith))) (side (from (suc k)) a)) m)
-        (λ (m : from (suc (suc k)) ≤ a). last-to-end (suc k) h l (omega arith) (λ j g i. omega (arith, later j g i, s .rises j (suc j) (omega arith))))
-        (side a (from (suc (suc k)))))
+      (λ (m : a < from (suc (suc k))). around (suc k) h l (⊎-elim (λ (o : from (suc k) < a). o) (λ (o : a ≤ from (suc k)). absurd (only (omega arith) (omega arith) (omega arith))) (side (from (suc k)) a)) m)
+      (λ (m : from (suc (suc k)) ≤ a). last-to-end (suc k) h l (omega arith) (λ j g i. omega (arith, later j g i, s .rises j (suc j) (omega arith))))
+      (side a (from (suc (suc k)))))
       (side a b)
 
   -- there, the child before
