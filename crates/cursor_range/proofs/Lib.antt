@@ -3,3 +3,4 @@ pub mod Starts
 pub mod Finding
 pub mod Ranges
 pub mod Choosing
+pub mod Covering

@@ -1,0 +1,67 @@
+// The lowest element that covers a range: rowan's covering_element.
+
+ghost use Prim.Native.Nat.{ℕ, _+_, _≤_};
+ghost use lib.ListN.{length};
+ghost use Rattle.definitions.specs.Tree.{textLen};
+ghost use Rattle.definitions.specs.Entry.{treeAt};
+ghost use Rattle.green.specs.Store.{here as held, entered, entries};
+ghost use Rattle.cursor.specs.Position.{Placed};
+ghost use Rattle.cursor_range.specs.Cover.{Covers};
+use crate::range;
+use crate::search;
+use crate::search::Bounds;
+use cursor::position;
+use cursor::position::Cursor;
+use utility_types::NodeOrToken;
+
+// Down from an element that covers the range to the first no child of which does; the path is written on the way.
+fn descend(
+    records: &[u64],
+    children: &[u64],
+    text: &[u8],
+    used: &[usize; 3],
+    at: Cursor,
+    path: &mut [u32],
+    start: usize,
+    end: usize,
+) -> Cursor
+    requires { ⌜ Placed (held records children text used) at × (64 ≤ length (now path)) ⌝ }
+    requires { ⌜ (at .start ≤ start) × (start ≤ end) × (end ≤ at .start + textLen (treeAt (entries (held records children text used)) (at .number))) ⌝ }
+    ensures { λ r. ⌜ Covers (entered records children text used) start end at (now (path .entry)) r (now (path .exit)) ⌝ }
+{
+    let mut here = at;
+    'descend: loop {
+        let NodeOrToken::Node(_) = position::node_or_token(records, children, text, used, here)
+        else {
+            break here;
+        };
+        let count = position::child_count(records, children, text, used, here);
+        let mut left = Bounds {
+            low: 0,
+            high: count,
+        };
+        let k = 'scan: loop {
+            if left.low < left.high {
+                left = search::halve(records, children, text, used, here, start + 1, left);
+            } else {
+                let chosen = range::choose(
+                    records,
+                    children,
+                    text,
+                    used,
+                    here,
+                    left.low,
+                    start,
+                    end,
+                );
+                if chosen == count {
+                    break 'descend here;
+                }
+                break 'scan chosen;
+            }
+        };
+        let depth = here.depth;
+        path[depth] = k as u32;
+        here = position::child(records, children, text, used, here, k);
+    }
+}
