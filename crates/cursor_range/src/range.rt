@@ -1,13 +1,24 @@
 // The child of a node at a range: rowan's child_or_token_at_range.
 
+ghost use mathlib.Core.Path.{_≡_};
 ghost use Prim.Native.Nat.{ℕ, _+_, _≤_};
+ghost use Rattle.definitions.specs.Query.{Question};
+ghost use Rattle.definitions.specs.Refusal.{isRangeBefore};
 ghost use Rattle.green.specs.Store.{here, entered, entries};
+ghost use Rattle.green.specs.Valid.{Valid};
+ghost use Rattle.cursor.specs.Answers.{Tells, asked};
 ghost use Rattle.cursor.specs.Position.{Inner};
 ghost use Rattle.cursor_range.specs.Search.{Partition};
 ghost use Rattle.cursor_range.specs.Range.{Chosen};
 use crate::search;
+use cursor::path;
+use cursor::path::Located;
+use cursor::path::Side;
 use cursor::position;
+use cursor::position::Answer;
 use cursor::position::Cursor;
+use utility_types::NodeOrToken;
+use utility_types::Refusal;
 
 // The child at a range, if the first `count` children and no others start at or before it.
 pub fn choose(
@@ -60,4 +71,49 @@ pub fn child_at_range(
     }
     let count = search::partition_point(records, children, text, used, at, start + 1);
     choose(records, children, text, used, at, count, start, end)
+}
+
+pub fn is_range_before(from: usize, start: usize, end: usize) -> bool
+    ensures { λ r. ⌜ r ≡ isRangeBefore from start end ⌝ }
+{
+    end < start || start < from
+}
+
+// The child of the node at a path that is at a range.
+pub fn child_or_token_at_range(
+    records: &[u64],
+    children: &[u64],
+    text: &[u8],
+    used: &[usize; 3],
+    root: usize,
+    path: &mut [u32; 64],
+    depth: usize,
+    start: usize,
+    end: usize,
+) -> Answer
+    requires { ⌜ Valid (here records children text used) ⌝ }
+    ensures { λ r. ⌜ Tells (now (path .entry)) (now (path .exit)) (asked (entries (entered records children text used)) root depth (now (path .entry)) (Question.childAtRange start end)) r ⌝ }
+{
+    let found = path::locate(
+        records,
+        children,
+        text,
+        used,
+        root,
+        path,
+        depth,
+        Side::Either,
+    );
+    let Located::At(place) = found else {
+        return Answer::Refused(Refusal::NoSuchElement);
+    };
+    let at = place.at;
+    let NodeOrToken::Node(_) = position::node_or_token(records, children, text, used, at) else {
+        return Answer::Refused(Refusal::NoSuchElement);
+    };
+    if is_range_before(at.start, start, end) {
+        return Answer::Refused(Refusal::OutOfRange);
+    }
+    let k = child_at_range(records, children, text, used, at, start, end);
+    position::child_answer(records, children, text, used, at, k, path)
 }
