@@ -1,8 +1,9 @@
 -- The child at a range and the element that covers it, as they are asked for. Assumes nothing.
-use Prim.Native.Nat.{ℕ, _+_, _≤_}
+use Prim.Native.Nat.{ℕ, _+_, _≤_, _<_}
+use native.Mathlib.Omega.{arith}
 use mathlib.Core.Path.{_≡_, refl, sym, ap, _∙_}
 use mathlib.Core.List.{List}
-use mathlib.Core.Bool.{Bool, true, false, _||_}
+use mathlib.Core.Bool.{Bool, true, false, _||_, or-assoc}
 use lib.Dec.{ltb}
 use lib.ListN.{take, drop, getElem?}
 use borrow.Author.Tests.{ltb-false}
@@ -29,22 +30,20 @@ use Rattle.cursor.specs.declared.path.Located.the-variants.{At}
 use Rattle.cursor.specs.Position.{at, Inner}
 use Rattle.cursor.specs.Path.{Leads}
 use Rattle.cursor.specs.Answers.{Tells, asked}
+use Rattle.cursor.proofs.Telling.{told-as, none-told}
 use Rattle.cursor.proofs.Asking.{stood, asked-of, of-node, of-token}
 use Rattle.cursor_range.specs.Range.{Chosen}
 use Rattle.cursor_range.specs.Cover.{Covers}
+use Rattle.cursor_range.proofs.Choosing.{none-past}
 
 pub not-before : (from a b : ℕ) → isRangeBefore from a b ≡ false → (from ≤ a) × (a ≤ b)
 unfolding isRangeBefore
 not-before from a b e = let t = or-false _ _ e in (ltb-false _ _ (t .1), ltb-false _ _ (t .0))
 
 -- a range is outside if it is before, or ends after
-or-or : (x y z : Bool) → (x || (y || z)) ≡ ((x || y) || z)
-or-or true y z = refl
-or-or false y z = refl
-
 pub outside-if : {t : Bool} (from to a b : ℕ) → t ≡ isRangeBefore from a b → isRangeOutside from to a b ≡ (t || ltb to b)
 unfolding isRangeBefore isRangeOutside
-outside-if from to a b e = or-or (ltb b a) (ltb a from) (ltb to b) ∙ ap (λ t. t || ltb to b) (sym e)
+outside-if from to a b e = sym (or-assoc (ltb b a) (ltb a from) (ltb to b)) ∙ ap (λ t. t || ltb to b) (sym e)
 
 pub not-outside : (from to a b : ℕ) → isRangeOutside from to a b ≡ false → (from ≤ a) × (a ≤ b) × (b ≤ to)
 not-outside from to a b e =
@@ -82,12 +81,19 @@ module _ {s : Store} {side : Side} {r depth : ℕ} {l : List ℕ} {x : Located} 
     child-asked t {k} o =
         sym (asked-of d h (Question.childAtRange a b) ∙ of-node it (i .node) _ ∙ rw t (ap maybe (o .here (take depth l)) ∙ ap (λ e. maybe (getElem? (children e) k)) same-path))
 
-    module _ {n : ℕ} (e : n ≡ textLen (treeAt es (p .at .number))) where
-      pub outside-asked : isRangeOutside (p .at .start) (p .at .start + n) a b ≡ true → asked es r depth l (Question.coveringElement a b) ≡ refused 5
+    pub past-asked : isRangeBefore (p .at .start) a b ≡ false → {n : ℕ} → n ≡ p .at .start + textLen (treeAt es (p .at .number)) → n < a
+        → Tells l l (asked es r depth l (Question.childAtRange a b)) answer.None
+    unfolding ask
+    past-asked t e z =
+        told-as (none-told (none-past i (not-before (p .at .start) a b t .1) (omega arith) (take depth l)))
+        (sym (asked-of d h (Question.childAtRange a b) ∙ of-node it (i .node) _ ∙ rw t))
+
+    module _ {n : ℕ} (e : n ≡ p .at .start + textLen (treeAt es (p .at .number))) where
+      pub outside-asked : isRangeOutside (p .at .start) n a b ≡ true → asked es r depth l (Question.coveringElement a b) ≡ refused 5
       unfolding ask
       outside-asked t = asked-of d h (Question.coveringElement a b) ∙ of-node it (i .node) _ ∙ rw (← e, t)
 
-      pub covering-asked : isRangeOutside (p .at .start) (p .at .start + n) a b ≡ false → {f : Cursor} {l′ : List ℕ} → Covers s a b (p .at) l f l′ → {y : SyntaxElement}
+      pub covering-asked : isRangeOutside (p .at .start) n a b ≡ false → {f : Cursor} {l′ : List ℕ} → Covers s a b (p .at) l f l′ → {y : SyntaxElement}
           → ((m : List ℕ) → shownAt m y ≡ shown (at es (take (f .depth) m) f)) × (y .depth ≡ f .depth)
           → Tells l l′ (asked es r depth l (Question.coveringElement a b)) (answer.Element y)
       unfolding ask

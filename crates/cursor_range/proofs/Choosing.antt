@@ -4,10 +4,12 @@ use native.Mathlib.Omega.{arith}
 use mathlib.Core.Path.{_≡_, refl, sym, subst, _∙_}
 use mathlib.Core.Logic.{⊎-elim}
 use mathlib.Core.List.{List, [], _∷_, _++_}
+use mathlib.Core.Option.{none}
 use lib.ListN.{length, getD}
 use Rattle.definitions.specs.Tree.{textLen}
 use Rattle.definitions.specs.Entry.{Entry, entryAt, treeAt}
 use Rattle.definitions.specs.Element.{Element, children}
+use Rattle.definitions.specs.Cursor.{childAtRange}
 use Rattle.green.specs.Store.{Store, entries}
 use Rattle.cursor.specs.declared.position.Cursor.{Cursor}
 use Rattle.cursor.specs.Position.{at, Inner, childCount, ChildAt}
@@ -52,27 +54,28 @@ module _ {s : Store} {c : Cursor} (i : Inner s c) where
         none-left (suc n) e = absurd (omega (arith, first-start es c, p .after 0 (omega arith) (omega arith)))
 
     -- the range starts past the node
-    pub past-chosen : {n m : ℕ} → n ≡ textLen (treeAt es (c .number)) → c .start + n < a → m ≡ childCount es c → Chosen es c a b m
-    past-chosen e l q = rw q (none-chosen (λ k g f. omega (arith, last-start i, start-rises es c (suc k) (childCount es c) (omega arith))))
+    pub none-past : c .start + textLen (treeAt es (c .number)) < a → (p : List ℕ) → childAtRange a b (at es p c) ≡ none
+    none-past l p = none-at (at es p c) (adjoining p) a b ab
+        (λ k g f. omega (arith, last-start i, start-rises es c (suc k) (childCount es c) (omega (arith, children-count i p))))
 
-    -- r, from its start over n bytes, is the last child that starts at or before the range
-    module _ {j k n : ℕ} {r : Cursor} (p : Partition es c (a + 1) j) (q : k + 1 ≡ j) (t : ChildAt s c k r) (e : n ≡ textLen (treeAt es (r .number))) where
+    -- r, which ends at n, is the last child that starts at or before the range
+    module _ {j k n : ℕ} {r : Cursor} (p : Partition es c (a + 1) j) (q : k + 1 ≡ j) (t : ChildAt s c k r) (e : n ≡ r .start + textLen (treeAt es (r .number))) where
       within : k < childCount es c
       within = omega (arith, p .most)
 
-      ends : startOf es c (suc k) ≡ r .start + n
-      ends = rw e (sym (child-end i t within))
+      ends : startOf es c (suc k) ≡ n
+      ends = sym (e ∙ child-end i t within)
 
       starts : startOf es c k ≤ a
       starts = omega (arith, p .before k (omega arith))
 
-      pub short-chosen : {m : ℕ} → r .start + n < b → m ≡ childCount es c → Chosen es c a b m
+      pub short-chosen : {m : ℕ} → n < b → m ≡ childCount es c → Chosen es c a b m
       short-chosen l g = rw g (none-chosen (λ m h f. ⊎-elim
           (λ (o : m < j). omega (arith, ends, start-rises es c (suc m) (suc k) (omega arith)))
           (λ (o : j ≤ m). absurd (omega (arith, p .after m o h)))
           (side m j)))
 
-      pub last-chosen : b ≤ r .start + n → (0 < k → r .start ≡ b → b < r .start + n → ⊥) → Chosen es c a b k
+      pub last-chosen : b ≤ n → (0 < k → r .start ≡ b → b < n → ⊥) → Chosen es c a b k
       last-chosen l only = record {
         most = omega (arith, within);
         around = λ g. (starts, omega (arith, ends));
@@ -82,12 +85,12 @@ module _ {s : Store} {c : Cursor} (i : Inner s c) where
             ∙ sym (adjoining x .listed .at k g);
       }
 
-      pub before-chosen : {m : ℕ} → m + 1 ≡ k → r .start ≡ b → b < r .start + n → Chosen es c a b m
+      pub before-chosen : {m : ℕ} → m + 1 ≡ k → r .start ≡ b → b < n → Chosen es c a b m
       before-chosen {m} f g l =
           let w : suc m ≡ k = omega arith in
           let u : startOf es c (suc m) ≤ a = rw w starts in
           let z : startOf es c (suc m) ≡ b = rw w (sym (t .start) ∙ g) in
-          let y : startOf es c (suc (suc m)) ≡ r .start + n = rw w ends in
+          let y : startOf es c (suc (suc m)) ≡ n = rw w ends in
           record {
             most = omega (arith, within);
             around = λ h. (omega (arith, start-rises es c m (suc m) (omega arith)), omega arith);

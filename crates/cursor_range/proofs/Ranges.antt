@@ -120,30 +120,28 @@ module _ (e : Element) {from : ℕ → ℕ} (s : Adjoining (children e) from) (a
         ended : (j : ℕ) → j < n → from j < a → from (suc j) ≤ a
         ended j g f = ⊎-elim (λ (m : k < j). absurd (omega (arith, s .rises (suc k) j (omega arith)))) (λ (m : j ≤ k). omega (arith, s .rises (suc j) (suc k) (omega arith))) (side k j)
 
-  first-there : b ≤ a → 0 < n → from 0 ≡ a → a < from 1 → childAtRange a b e ≡ some (s .element 0)
+  -- nothing ends there, and the first child starts there
+  first-there : (k : ℕ) → (0 < k → ⊥) → k < n → b ≤ a → from k ≡ a → a < from (suc k) → childAtRange a b e ≡ some (s .element k)
   unfolding childAtRange
-  first-there l h p q = rw (le-ltb a b l)
+  first-there (suc k) f h l p q = absurd (f (omega arith))
+  first-there zero f h l p q = rw (le-ltb a b l)
       (third-of _
       (find-none _ (children e) (s .listed) (λ j g. within-not j g (λ f. absurd (omega (arith, s .rises 0 j (omega arith))))))
       (findLast-none _ (children e) (s .listed) (λ j g. ends-not j g (λ f. omega (arith, s .rises 1 (suc j) (omega arith)))))
       ∙ starts-here (children e) a (s .listed) h (s .start 0 h ∙ p))
 
-  -- the last child that starts at or before the range, unless the range is empty, where a child that is not the first and not empty starts
+  -- the last child that starts at or before the range, unless the range is empty and starts with it, and it is neither the first nor empty
   pub last-at : (k : ℕ) → k < n → a ≤ b → from k ≤ a → b ≤ from (suc k) → ((j : ℕ) → k < j → j < n → a < from j)
       → (0 < k → from k ≡ b → b < from (suc k) → ⊥) → childAtRange a b e ≡ some (s .element k)
-  last-at zero h ab p q later only = ⊎-elim
-      (λ (l : a < b). containing 0 h l p q)
+  last-at k h ab p q later only = ⊎-elim
+      (λ (l : a < b). containing k h l p q)
       (λ (l : b ≤ a). ⊎-elim
-      (λ (m : a < from 1). ⊎-elim (λ (o : from 0 < a). around 0 h l o m) (λ (o : a ≤ from 0). first-there l h (omega arith) m) (side (from 0) a))
-      (λ (m : from 1 ≤ a). last-to-end 0 h l (omega arith) (λ j g i. omega (arith, later j g i, s .rises j (suc j) (omega arith))))
-      (side a (from 1)))
-      (side a b)
-  last-at (suc k) h ab p q later only = ⊎-elim
-      (λ (l : a < b). containing (suc k) h l p q)
-      (λ (l : b ≤ a). ⊎-elim
-      (λ (m : a < from (suc (suc k))). around (suc k) h l (⊎-elim (λ (o : from (suc k) < a). o) (λ (o : a ≤ from (suc k)). absurd (only (omega arith) (omega arith) (omega arith))) (side (from (suc k)) a)) m)
-      (λ (m : from (suc (suc k)) ≤ a). last-to-end (suc k) h l (omega arith) (λ j g i. omega (arith, later j g i, s .rises j (suc j) (omega arith))))
-      (side a (from (suc (suc k)))))
+      (λ (m : a < from (suc k)). ⊎-elim
+      (λ (o : from k < a). around k h l o m)
+      (λ (o : a ≤ from k). first-there k (λ z. only z (omega arith) (omega arith)) h l (omega arith) m)
+      (side (from k) a))
+      (λ (m : from (suc k) ≤ a). last-to-end k h l (omega arith) (λ j g i. omega (arith, later j g i, s .rises j (suc j) (omega arith))))
+      (side a (from (suc k))))
       (side a b)
 
   -- there, the child before

@@ -114,7 +114,7 @@ pub fn covering_element(
     let NodeOrToken::Node(_) = position::node_or_token(records, children, text, used, at) else {
         return Answer::Refused(Refusal::NoSuchElement);
     };
-    let node_end = at.start + position::text_len(records, children, text, used, at);
+    let node_end = range::end_of(records, children, text, used, at);
     if is_range_outside(at.start, node_end, start, end) {
         return Answer::Refused(Refusal::OutOfRange);
     }

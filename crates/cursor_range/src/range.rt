@@ -2,12 +2,14 @@
 
 ghost use mathlib.Core.Path.{_≡_};
 ghost use Prim.Native.Nat.{ℕ, _+_, _≤_};
+ghost use Rattle.definitions.specs.Tree.{textLen};
+ghost use Rattle.definitions.specs.Entry.{treeAt};
 ghost use Rattle.definitions.specs.Query.{Question};
 ghost use Rattle.definitions.specs.Refusal.{isRangeBefore};
 ghost use Rattle.green.specs.Store.{here, entered, entries};
 ghost use Rattle.green.specs.Valid.{Valid};
 ghost use Rattle.cursor.specs.Answers.{Tells, asked};
-ghost use Rattle.cursor.specs.Position.{Inner};
+ghost use Rattle.cursor.specs.Position.{Placed, Inner};
 ghost use Rattle.cursor_range.specs.Search.{Partition};
 ghost use Rattle.cursor_range.specs.Range.{Chosen};
 use crate::search;
@@ -19,6 +21,20 @@ use cursor::position::Answer;
 use cursor::position::Cursor;
 use utility_types::NodeOrToken;
 use utility_types::Refusal;
+
+// Where an element ends.
+pub fn end_of(
+    records: &[u64],
+    children: &[u64],
+    text: &[u8],
+    used: &[usize; 3],
+    at: Cursor,
+) -> usize
+    requires { ⌜ Placed (here records children text used) at ⌝ }
+    ensures { λ r. ⌜ (r ≡ at .start + textLen (treeAt (entries (entered records children text used)) (at .number))) × (r ≤ 4294967295) ⌝ }
+{
+    at.start + position::text_len(records, children, text, used, at)
+}
 
 // The child at a range, if the first `count` children and no others start at or before it.
 pub fn choose(
@@ -40,7 +56,7 @@ pub fn choose(
     }
     let last = count - 1;
     let child = position::child(records, children, text, used, at, last);
-    let child_end = child.start + position::text_len(records, children, text, used, child);
+    let child_end = end_of(records, children, text, used, child);
     if child_end < end {
         return position::child_count(records, children, text, used, at);
     }
@@ -51,8 +67,8 @@ pub fn choose(
     last
 }
 
-// The index of the child at a range, or the count of children if there is none.
-pub fn child_at_range(
+// The index of the child at a range that starts in the node, or the count of children if there is none.
+fn child_at_range(
     records: &[u64],
     children: &[u64],
     text: &[u8],
@@ -62,13 +78,9 @@ pub fn child_at_range(
     end: usize,
 ) -> usize
     requires { ⌜ Inner (here records children text used) at ⌝ }
-    requires { ⌜ (at .start ≤ start) × (start ≤ end) ⌝ }
+    requires { ⌜ (at .start ≤ start) × (start ≤ end) × (start ≤ at .start + textLen (treeAt (entries (here records children text used)) (at .number))) ⌝ }
     ensures { λ r. ⌜ Chosen (entries (entered records children text used)) at start end r ⌝ }
 {
-    let node_end = at.start + position::text_len(records, children, text, used, at);
-    if node_end < start {
-        return position::child_count(records, children, text, used, at);
-    }
     let count = search::partition_point(records, children, text, used, at, start + 1);
     choose(records, children, text, used, at, count, start, end)
 }
@@ -113,6 +125,9 @@ pub fn child_or_token_at_range(
     };
     if is_range_before(at.start, start, end) {
         return Answer::Refused(Refusal::OutOfRange);
+    }
+    if end_of(records, children, text, used, at) < start {
+        return Answer::None;
     }
     let k = child_at_range(records, children, text, used, at, start, end);
     position::child_answer(records, children, text, used, at, k, path)

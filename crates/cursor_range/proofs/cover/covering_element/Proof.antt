@@ -31,26 +31,23 @@ enum-told-3 c = search needs
 returns-2 : tie.Need-returns-2
 returns-2 c = refused-as (no-node (c .before .before .before .before .before .before .before .locate .ensures) (c .before .before .before .before .before .found .given .1) _ _ (leaf (stood (c .before .before .before .before .before .before .before .locate .ensures) (c .before .before .before .before .before .found .given .1) .placed) (c .before .before .node-or-token .ensures) (c .enum-told3 .given .1)) .1)
 
-text-len-requires : tie.Need-text-len-requires
-text-len-requires c κs = stood (c .before .before .before .before .before .before .before .locate .ensures) (c .before .before .before .before .before .found .given .1) .placed
-
-add-node-end : tie.Need-add-node-end
-add-node-end c = search needs
+end-of-requires : tie.Need-end-of-requires
+end-of-requires c κs = stood (c .before .before .before .before .before .before .before .locate .ensures) (c .before .before .before .before .before .found .given .1) .placed
 
 is-range-outside-requires : tie.Need-is-range-outside-requires
 is-range-outside-requires c κs = search needs
 
 returns-3 : tie.Need-returns-3
-returns-3 c = out-of-range (outside-asked (c .before .before .before .before .before .before .before .before .before .before .before .locate .ensures) (c .before .before .before .before .before .before .before .before .before .found .given .1) _ _ (inner (stood (c .before .before .before .before .before .before .before .before .before .before .before .locate .ensures) (c .before .before .before .before .before .before .before .before .before .found .given .1) .placed) (c .before .before .before .before .before .before .node-or-token .ensures) (c .before .before .before .before .enum-told2 .given .1)) (c .before .before .before .text-len .ensures .0) (sym (c .before .is-range-outside .ensures) ∙ c .if1 .taken))
+returns-3 c = out-of-range (outside-asked (c .before .before .before .before .before .before .before .before .before .before .locate .ensures) (c .before .before .before .before .before .before .before .before .found .given .1) _ _ (inner (stood (c .before .before .before .before .before .before .before .before .before .before .locate .ensures) (c .before .before .before .before .before .before .before .before .found .given .1) .placed) (c .before .before .before .before .before .node-or-token .ensures) (c .before .before .before .enum-told2 .given .1)) (c .before .before .end-of .ensures .0) (sym (c .before .is-range-outside .ensures) ∙ c .if1 .taken))
 
 descend-requires : tie.Need-descend-requires
-descend-requires c κs = let w = not-outside _ _ _ _ (sym (c .before .before .is-range-outside .ensures) ∙ c .before .if1 .left) in ((stood (c .before .before .before .before .before .before .before .before .before .before .before .before .locate .ensures) (c .before .before .before .before .before .before .before .before .before .before .found .given .1) .placed, search needs), (w .0, w .1, omega (arith, w .2, c .before .before .before .before .text-len .ensures .0)))
+descend-requires c κs = let w = not-outside _ _ _ _ (sym (c .before .before .is-range-outside .ensures) ∙ c .before .if1 .left) in ((stood (c .before .before .before .before .before .before .before .before .before .before .before .locate .ensures) (c .before .before .before .before .before .before .before .before .before .found .given .1) .placed, search needs), (w .0, w .1, omega (arith, w .2, c .before .before .before .end-of .ensures .0)))
 
 syntax-element-requires : tie.Need-syntax-element-requires
 syntax-element-requires c κs = c .descend .ensures .placed
 
 returns-4 : tie.Need-returns-4
-returns-4 c = covering-asked (c .before .before .before .before .before .before .before .before .before .before .before .before .before .before .locate .ensures) (c .before .before .before .before .before .before .before .before .before .before .before .before .found .given .1) _ _ (inner (stood (c .before .before .before .before .before .before .before .before .before .before .before .before .before .before .locate .ensures) (c .before .before .before .before .before .before .before .before .before .before .before .before .found .given .1) .placed) (c .before .before .before .before .before .before .before .before .before .node-or-token .ensures) (c .before .before .before .before .before .before .before .enum-told2 .given .1)) (c .before .before .before .before .before .before .text-len .ensures .0) (sym (c .before .before .before .before .is-range-outside .ensures) ∙ c .before .before .before .if1 .left) (c .before .descend .ensures) (c .syntax-element .ensures)
+returns-4 c = covering-asked (c .before .before .before .before .before .before .before .before .before .before .before .before .before .locate .ensures) (c .before .before .before .before .before .before .before .before .before .before .before .found .given .1) _ _ (inner (stood (c .before .before .before .before .before .before .before .before .before .before .before .before .before .locate .ensures) (c .before .before .before .before .before .before .before .before .before .before .before .found .given .1) .placed) (c .before .before .before .before .before .before .before .before .node-or-token .ensures) (c .before .before .before .before .before .before .enum-told2 .given .1)) (c .before .before .before .before .before .end-of .ensures .0) (sym (c .before .before .before .before .is-range-outside .ensures) ∙ c .before .before .before .if1 .left) (c .before .descend .ensures) (c .syntax-element .ensures)
 
 pub covering-element-spec : {M : Type 1} → statement M
 covering-element-spec =
@@ -64,8 +61,7 @@ covering-element-spec =
     enum-told-2
     enum-told-3
     returns-2
-    text-len-requires
-    add-node-end
+    end-of-requires
     is-range-outside-requires
     returns-3
     descend-requires

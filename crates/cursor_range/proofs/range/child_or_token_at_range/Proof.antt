@@ -1,9 +1,10 @@
 -- `child_or_token_at_range` meets its contract. Assumes nothing.
+use native.Mathlib.Omega.{arith}
 use mathlib.Core.Path.{sym, _∙_}
 use borrow.Author.Needs.{needs}
 use Rattle.cursor.proofs.Telling.{told-as}
 use Rattle.cursor.proofs.Asking.{nowhere-asked, stood, inner, leaf, refused-as}
-use Rattle.cursor_range.proofs.Asked.{not-before, out-of-range, no-node, before-asked, child-asked}
+use Rattle.cursor_range.proofs.Asked.{not-before, out-of-range, no-node, before-asked, past-asked, child-asked}
 use Rattle.cursor_range.proofs.range.child_or_token_at_range.Statement.{statement}
 use Rattle.cursor_range.proofs.range.child_or_token_at_range.Tie as tie
 
@@ -37,14 +38,20 @@ is-range-before-requires c κs = search needs
 returns-3 : tie.Need-returns-3
 returns-3 c = out-of-range (before-asked (c .before .before .before .before .before .before .before .before .before .locate .ensures) (c .before .before .before .before .before .before .before .found .given .1) _ _ (inner (stood (c .before .before .before .before .before .before .before .before .before .locate .ensures) (c .before .before .before .before .before .before .before .found .given .1) .placed) (c .before .before .before .before .node-or-token .ensures) (c .before .before .enum-told2 .given .1)) (sym (c .before .is-range-before .ensures) ∙ c .if1 .taken))
 
-child-at-range-requires : tie.Need-child-at-range-requires
-child-at-range-requires c κs = (inner (stood (c .before .before .before .before .before .before .before .before .before .locate .ensures) (c .before .before .before .before .before .before .before .found .given .1) .placed) (c .before .before .before .before .node-or-token .ensures) (c .before .before .enum-told2 .given .1), not-before _ _ _ (sym (c .before .is-range-before .ensures) ∙ c .if1 .left))
-
-child-answer-requires : tie.Need-child-answer-requires
-child-answer-requires c κs = (inner (stood (c .before .before .before .before .before .before .before .before .before .before .before .locate .ensures) (c .before .before .before .before .before .before .before .before .before .found .given .1) .placed) (c .before .before .before .before .before .before .node-or-token .ensures) (c .before .before .before .before .enum-told2 .given .1), search needs)
+end-of-requires : tie.Need-end-of-requires
+end-of-requires c κs = stood (c .before .before .before .before .before .before .before .before .before .locate .ensures) (c .before .before .before .before .before .before .before .found .given .1) .placed
 
 returns-4 : tie.Need-returns-4
-returns-4 c = told-as (c .child-answer .ensures) (child-asked (c .before .before .before .before .before .before .before .before .before .before .before .before .locate .ensures) (c .before .before .before .before .before .before .before .before .before .before .found .given .1) _ _ (inner (stood (c .before .before .before .before .before .before .before .before .before .before .before .before .locate .ensures) (c .before .before .before .before .before .before .before .before .before .before .found .given .1) .placed) (c .before .before .before .before .before .before .before .node-or-token .ensures) (c .before .before .before .before .before .enum-told2 .given .1)) (sym (c .before .before .before .before .is-range-before .ensures) ∙ c .before .before .before .if1 .left) (c .before .before .child-at-range .ensures))
+returns-4 c = past-asked (c .before .before .before .before .before .before .before .before .before .before .before .locate .ensures) (c .before .before .before .before .before .before .before .before .before .found .given .1) _ _ (inner (stood (c .before .before .before .before .before .before .before .before .before .before .before .locate .ensures) (c .before .before .before .before .before .before .before .before .before .found .given .1) .placed) (c .before .before .before .before .before .before .node-or-token .ensures) (c .before .before .before .before .enum-told2 .given .1)) (sym (c .before .before .before .is-range-before .ensures) ∙ c .before .before .if1 .left) (c .before .end-of .ensures .0) (c .if2 .taken)
+
+child-at-range-requires : tie.Need-child-at-range-requires
+child-at-range-requires c κs = let w = not-before _ _ _ (sym (c .before .before .before .is-range-before .ensures) ∙ c .before .before .if1 .left) in (inner (stood (c .before .before .before .before .before .before .before .before .before .before .before .locate .ensures) (c .before .before .before .before .before .before .before .before .before .found .given .1) .placed) (c .before .before .before .before .before .before .node-or-token .ensures) (c .before .before .before .before .enum-told2 .given .1), (w .0, w .1, omega (arith, c .before .end-of .ensures .0, c .if2 .left)))
+
+child-answer-requires : tie.Need-child-answer-requires
+child-answer-requires c κs = (inner (stood (c .before .before .before .before .before .before .before .before .before .before .before .before .before .locate .ensures) (c .before .before .before .before .before .before .before .before .before .before .before .found .given .1) .placed) (c .before .before .before .before .before .before .before .before .node-or-token .ensures) (c .before .before .before .before .before .before .enum-told2 .given .1), search needs)
+
+returns-5 : tie.Need-returns-5
+returns-5 c = told-as (c .child-answer .ensures) (child-asked (c .before .before .before .before .before .before .before .before .before .before .before .before .before .before .locate .ensures) (c .before .before .before .before .before .before .before .before .before .before .before .before .found .given .1) _ _ (inner (stood (c .before .before .before .before .before .before .before .before .before .before .before .before .before .before .locate .ensures) (c .before .before .before .before .before .before .before .before .before .before .before .before .found .given .1) .placed) (c .before .before .before .before .before .before .before .before .before .node-or-token .ensures) (c .before .before .before .before .before .before .before .enum-told2 .given .1)) (sym (c .before .before .before .before .before .before .is-range-before .ensures) ∙ c .before .before .before .before .before .if1 .left) (c .before .before .child-at-range .ensures))
 
 pub child-or-token-at-range-spec : {M : Type 1} → statement M
 child-or-token-at-range-spec =
@@ -60,6 +67,8 @@ child-or-token-at-range-spec =
     returns-2
     is-range-before-requires
     returns-3
+    end-of-requires
+    returns-4
     child-at-range-requires
     child-answer-requires
-    returns-4)
+    returns-5)
