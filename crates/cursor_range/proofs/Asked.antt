@@ -36,7 +36,7 @@ use Rattle.cursor_range.specs.Range.{Chosen}
 use Rattle.cursor_range.specs.Cover.{Covers}
 use Rattle.cursor_range.proofs.Choosing.{none-past}
 
-pub not-before : (from a b : ℕ) → isRangeBefore from a b ≡ false → (from ≤ a) × (a ≤ b)
+not-before : (from a b : ℕ) → isRangeBefore from a b ≡ false → (from ≤ a) × (a ≤ b)
 unfolding isRangeBefore
 not-before from a b e = let t = or-false _ _ e in (ltb-false _ _ (t .1), ltb-false _ _ (t .0))
 
@@ -45,11 +45,16 @@ pub outside-if : {t : Bool} (from to a b : ℕ) → t ≡ isRangeBefore from a b
 unfolding isRangeBefore isRangeOutside
 outside-if from to a b e = sym (or-assoc (ltb b a) (ltb a from) (ltb to b)) ∙ ap (λ t. t || ltb to b) (sym e)
 
-pub not-outside : (from to a b : ℕ) → isRangeOutside from to a b ≡ false → (from ≤ a) × (a ≤ b) × (b ≤ to)
-not-outside from to a b e =
-    let t = or-false _ _ (sym (outside-if from to a b refl) ∙ e) in
-    let u = not-before from a b (t .0) in
-    (u .0, u .1, ltb-false _ _ (t .1))
+-- a range that is not refused, where the node ends at t
+module _ {n t : ℕ} (e : n ≡ t) (from a b : ℕ) where
+  pub inside-start : isRangeBefore from a b ≡ false → a ≤ n → (from ≤ a) × (a ≤ b) × (a ≤ t)
+  inside-start f h = let u = not-before from a b f in (u .0, u .1, omega arith)
+
+  pub inside-both : isRangeOutside from n a b ≡ false → (from ≤ a) × (a ≤ b) × (b ≤ t)
+  inside-both f =
+      let v = or-false _ _ (sym (outside-if from n a b refl) ∙ f) in
+      let u = not-before from a b (v .0) in
+      (u .0, u .1, omega (arith, ltb-false n b (v .1)))
 
 pub out-of-range : {l : List ℕ} {a : Result query.Answer} → a ≡ refused 5 → Tells l l a (Refused OutOfRange)
 out-of-range e = record { says = sym e; kept = refl }
