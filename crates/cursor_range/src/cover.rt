@@ -30,7 +30,7 @@ fn descend(
     children: &[u64],
     text: &[u8],
     used: &[usize; 3],
-    at: Cursor,
+    mut at: Cursor,
     path: &mut [u32],
     start: usize,
     end: usize,
@@ -39,40 +39,29 @@ fn descend(
     requires { ⌜ (at .start ≤ start) × (start ≤ end) × (end ≤ at .start + textLen (treeAt (entries (held records children text used)) (at .number))) ⌝ }
     ensures { λ r. ⌜ Covers (entered records children text used) start end at (now (path .entry)) r (now (path .exit)) ⌝ }
 {
-    let mut here = at;
     'descend: loop {
-        let NodeOrToken::Node(_) = position::node_or_token(records, children, text, used, here)
-        else {
-            break here;
+        let NodeOrToken::Node(_) = position::node_or_token(records, children, text, used, at) else {
+            break at;
         };
-        let count = position::child_count(records, children, text, used, here);
+        let count = position::child_count(records, children, text, used, at);
         let mut left = Bounds {
             low: 0,
             high: count,
         };
         let k = 'scan: loop {
             if left.low < left.high {
-                left = search::halve(records, children, text, used, here, start + 1, left);
+                left = search::halve(records, children, text, used, at, start + 1, left);
             } else {
-                let chosen = range::choose(
-                    records,
-                    children,
-                    text,
-                    used,
-                    here,
-                    left.low,
-                    start,
-                    end,
-                );
-                if chosen == count {
-                    break 'descend here;
+                let k = range::choose(records, children, text, used, at, left.low, start, end);
+                if k == count {
+                    break 'descend at;
                 }
-                break 'scan chosen;
+                break 'scan k;
             }
         };
-        let depth = here.depth;
+        let depth = at.depth;
         path[depth] = k as u32;
-        here = position::child(records, children, text, used, here, k);
+        at = position::child(records, children, text, used, at, k);
     }
 }
 

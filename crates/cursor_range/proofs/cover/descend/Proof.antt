@@ -14,16 +14,16 @@ use Rattle.cursor_range.proofs.cover.descend.Statement.{statement}
 use Rattle.cursor_range.proofs.cover.descend.Tie as tie
 
 abbrev Inv-scan : tie.InvT-scan
-Inv-scan records children text used path start end here count left₀ left = Narrowed (entries (store records children text used)) here (start + 1) (left .low) (left .high)
+Inv-scan records children text used at path start end count left₀ left = Narrowed (entries (store records children text used)) at (start + 1) (left .low) (left .high)
 
 abbrev μ-scan : tie.MeasureT-scan
-μ-scan records children text used path start end here count left₀ left = left .high - left .low
+μ-scan records children text used at path start end count left₀ left = left .high - left .low
 
 abbrev Inv-descend : tie.InvT-descend
-Inv-descend records children text used path₀ start end here₀ path here = Descending (store records children text used) start end here₀ path₀ here path
+Inv-descend records children text used at₀ path₀ start end at path = Descending (store records children text used) start end at₀ path₀ at path
 
 abbrev μ-descend : tie.MeasureT-descend
-μ-descend records children text used path₀ start end here₀ path here = height (treeAt (entries (store records children text used)) (here .number))
+μ-descend records children text used at₀ path₀ start end at path = height (treeAt (entries (store records children text used)) (at .number))
 
 descend-holds : tie.Need-descend-holds Inv-scan μ-scan Inv-descend μ-descend
 descend-holds c = setting-out (c .before .before .before .before .pre .0 .0) (c .before .before .before .before .pre .1 .0) (c .before .before .before .before .pre .1 .2)
