@@ -5,7 +5,7 @@ use mathlib.Core.Path.{_≡_, refl, sym, ap, _∙_}
 use mathlib.Core.List.{List}
 use mathlib.Core.Bool.{Bool, true, false, _||_, or-assoc}
 use lib.Dec.{ltb}
-use lib.ListN.{take, drop, getElem?}
+use lib.ListN.{take, getElem?}
 use borrow.Author.Tests.{ltb-false}
 use Rattle.definitions.specs.Prelude.{Result, ok, refused}
 use Rattle.definitions.specs.Tree.{isNode, textLen}
