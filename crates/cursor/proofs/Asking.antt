@@ -81,6 +81,9 @@ module _ {s : Store} {side : Side} {r depth : ℕ} {l : List ℕ} {x : Located} 
     unfolding named
     there = named-some (ltb 64 depth || isNoNode (entries s) r) (along (take depth l) (root (treeAt (entries s) r))) (sym (ap (locatedAt (entries s) depth l) h) ∙ d .says)
 
+    pub root-named : ltb 64 depth || isNoNode (entries s) r ≡ false
+    root-named = there .0
+
     pub leads-along : along (take depth l) (root (treeAt (entries s) r)) ≡ some it
     leads-along = there .1
 

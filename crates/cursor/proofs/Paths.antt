@@ -15,7 +15,6 @@ use Rattle.definitions.specs.Entry.{Entry, entryAt, treeAt, numberAt}
 use Rattle.definitions.specs.Refusal.{isNoNode}
 use Rattle.definitions.specs.Element.{Element, root, elements, children, along}
 use Rattle.definitions.proofs.Laws.{false≢true}
-use Rattle.definitions.proofs.Limits.{Small, small}
 use Rattle.green.specs.Store.{Store, entries}
 use Rattle.green.specs.Valid.{Valid, Known}
 use Rattle.green.proofs.Known.{count-records}
@@ -29,14 +28,14 @@ use Rattle.cursor.specs.declared.path.Parent.the-variants.{Of, NoParent}
 use Rattle.cursor.specs.Position.{at, Placed, Inner, childCount, ChildAt}
 use Rattle.cursor.specs.Path.{named, hasBeside, Branch, branch, branchOf, Above, Remembered, Stands}
 use Rattle.cursor.proofs.Elements.{node-height}
-use Rattle.cursor.proofs.Positions.{children-count}
+use Rattle.cursor.proofs.Positions.{children-count, root-placed}
 use Rattle.cursor.proofs.Telling.{past-end}
 
-or-true : (b : Bool) → (b || true) ≡ true
+pub or-true : (b : Bool) → (b || true) ≡ true
 or-true true = refl
 or-true false = refl
 
-and-false : (b : Bool) → (b && false) ≡ false
+pub and-false : (b : Bool) → (b && false) ≡ false
 and-false true = refl
 and-false false = refl
 
@@ -51,7 +50,7 @@ or-or none y z = refl
 or-or (some a) y z = refl
 
 -- what stands at an index of a list
-some-at : (xs : List ℕ) (i : ℕ) → i < length xs → getElem? xs i ≡ some (getD xs i 0)
+pub some-at : (xs : List ℕ) (i : ℕ) → i < length xs → getElem? xs i ≡ some (getD xs i 0)
 some-at [] i h = absurd (omega arith)
 some-at (x ∷ xs) zero h = refl
 some-at (x ∷ xs) (suc i) h = some-at xs i (omega arith)
@@ -80,17 +79,15 @@ pub node-here : {s : Store} {side : Side} {r depth : ℕ} {l : List ℕ} {c : Cu
 node-here g e t = record { placed = g .placed; node = sym (e .1) ∙ ap isNodeOf t }
 
 pub gone-none : {s : Store} {side : Side} {r depth : ℕ} {l : List ℕ} → Known s r → Gone s side r depth l (record { number = r; start = 0; depth = 0 }) NoParent 0
-gone-none {s} {side} {r} {depth} {l} k =
-    let z = small (treeAt (entries s) r) (k .valid .formed r (k .within) .small) in
-    record {
-      within = omega arith;
-      deep = refl;
-      placed = record { known = k; deep = omega (arith, z .height); far = omega (arith, z .len) };
-      numbers = refl;
-      rest = refl;
-      branches = or-none (branch side (take depth l) (root (treeAt (entries s) r)));
-      remembers = tt;
-    }
+gone-none {s} {side} {r} {depth} {l} k = record {
+  within = omega arith;
+  deep = refl;
+  placed = root-placed k;
+  numbers = refl;
+  rest = refl;
+  branches = or-none (branch side (take depth l) (root (treeAt (entries s) r)));
+  remembers = tt;
+}
 
 deeper : (s : Store) (side : Side) (l : List ℕ) (d : ℕ) (p : Parent) → Remembered s side d l p → Remembered s side (d + 1) l p
 deeper s side l d NoParent m = tt

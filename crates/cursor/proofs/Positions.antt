@@ -83,6 +83,16 @@ module _ {s : Store} {c : Cursor} (i : Inner s c) where
           here = child-here;
         })
 
+-- a node's level has a place in a path
+pub level-there : {s : Store} {c r : Cursor} {k : ℕ} → ChildAt s c k r → {n : ℕ} → 64 ≤ n → c .depth < n
+level-there a h = omega (arith, a .depth, a .placed .deep)
+
+-- a root stands at its start
+pub root-placed : {s : Store} {r : ℕ} → Known s r → Placed s (record { number = r; start = 0; depth = 0 })
+root-placed {s} {r} k =
+    let z = small (treeAt (entries s) r) (k .valid .formed r (k .within) .small) in
+    record { known = k; deep = omega (arith, z .height); far = omega (arith, z .len) }
+
 -- an element as answers name it
 pub shown-as : {s : Store} {c : Cursor} → Placed s c → {b : Bool} {k n : ℕ} (p : List ℕ)
     → b ≡ isNode (treeAt (entries s) (c .number)) → k ≡ kind (treeAt (entries s) (c .number)) → n ≡ textLen (treeAt (entries s) (c .number))

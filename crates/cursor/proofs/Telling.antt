@@ -5,8 +5,8 @@ use native.Mathlib.Numerals.{add-one}
 use mathlib.Core.Path.{_≡_, refl, sym, ap, _∙_}
 use mathlib.Core.List.{List, [], _∷_, _++_}
 use mathlib.Core.Option.{Option, none, some}
-use lib.ListN.{length, getElem?, take, drop, set}
-use lib.Seq.{take-suc-set, drop-set-lt}
+use lib.ListN.{length, getElem?, take, drop, set, length-set}
+use lib.Seq.{slice, slice-cons, getD-set-same, take-suc-set, take-set-lt, drop-set-lt}
 use Rattle.definitions.specs.Prelude.{Result, ok, option}
 use Rattle.definitions.specs.Element.{Element, children, Shown, shown}
 use Rattle.definitions.specs.Query as query
@@ -27,6 +27,12 @@ pub past-end : {A : Type 0} (xs : List A) (i : ℕ) → length xs ≤ i → getE
 past-end [] i h = refl
 past-end (x ∷ xs) zero h = absurd (omega arith)
 past-end (x ∷ xs) (suc i) h = past-end xs i (omega arith)
+
+-- what lies between two indexes after one is written just before
+pub slice-set : (l : List ℕ) (d t k : ℕ) → d < t → t ≤ length l → slice d t (set l d k) ≡ k ∷ slice (d + 1) t l
+slice-set l d t k h g =
+    slice-cons d t (set l d k) 0 h (rw (length-set l d k) g)
+    ∙ rw (getD-set-same l d k 0 (omega arith), take-set-lt t l d k h, drop-set-lt (suc d) (take t l) d k (omega arith), add-one d) refl
 
 -- a question that is answered by none, or by an element
 pub none-told : {l : List ℕ} {o : Option Element} → o ≡ none → Tells l l (maybe o) None

@@ -1,13 +1,12 @@
 -- The token at an element's edge, one level at a time. Assumes nothing.
 use Prim.Native.Nat.{ℕ, zero, suc, _+_, _-_, _≤_, _<_}
 use native.Mathlib.Omega.{arith}
-use native.Mathlib.Numerals.{add-one}
 use mathlib.Core.Path.{_≡_, refl, sym, ap, subst, _∙_}
 use mathlib.Core.List.{List, [], _∷_, _++_, append-assoc}
 use mathlib.Core.Bool.{true, false}
 use mathlib.Core.Option.{Option, none, some, bind}
-use lib.ListN.{length, getElem?, take, drop, set, take-append-drop, length-set}
-use lib.Seq.{slice, slice-empty, slice-cons, getD-set-same, take-set-lt, take-set-le, drop-set-lt, take-take}
+use lib.ListN.{length, getElem?, take, drop, set}
+use lib.Seq.{slice, slice-empty, take-set-le, drop-set-lt, take-take}
 use Rattle.definitions.specs.Tree.{Tree, token, node, Forest, nil, cons, isNode, childrenOf, count, textLen}
 use Rattle.definitions.specs.Entry.{Entry, treeAt}
 use Rattle.definitions.specs.Element.{Element, elements, children}
@@ -20,7 +19,7 @@ use Rattle.cursor.specs.declared.position.Cursor.{Cursor}
 use Rattle.cursor.specs.Position.{at, Placed, Inner, childCount, ChildAt}
 use Rattle.cursor.proofs.Elements.{elements-length}
 use Rattle.cursor.proofs.Positions.{children-count}
-use Rattle.cursor.proofs.Telling.{past-end}
+use Rattle.cursor.proofs.Telling.{past-end, slice-set}
 use Rattle.cursor_token.specs.Edge.{edgeToken, edgeIndex, edgeAt, Reached, EdgeOf, EdgeBelow}
 use Rattle.cursor_token.specs.declared.edge.Edge.{Edge}
 use Rattle.cursor_token.specs.declared.edge.Edge.the-variants.{Token, Nothing}
@@ -87,16 +86,6 @@ edge-of {s} {direction} {c} {k} i e q b = record {
       ∙ ap (λ m. bind (getElem? (children (at (entries s) p c)) m) (edgeToken direction)) (ap (edgeIndex direction) (children-count i p ∙ sym e) ∙ sym q));
   written = b .written;
 }
-
--- what lies between two indexes after one is written just before
-slice-set : (l : List ℕ) (d t k : ℕ) → d < t → t ≤ length l → slice d t (set l d k) ≡ k ∷ slice (d + 1) t l
-slice-set l d t k h g =
-    slice-cons d t (set l d k) 0 h (rw (length-set l d k) g)
-    ∙ rw (getD-set-same l d k 0 (omega arith), take-set-lt t l d k h, drop-set-lt (suc d) (take t l) d k (omega arith), add-one d) refl
-
--- a node's level has a place in a path
-pub level-there : {s : Store} {c r : Cursor} {k : ℕ} → ChildAt s c k r → {n : ℕ} → 64 ≤ n → c .depth < n
-level-there a h = omega (arith, a .depth, a .placed .deep)
 
 module _ {s : Store} {direction : Direction} {c r : Cursor} {k : ℕ} (a : ChildAt s c k r) {l l′ : List ℕ} where
   pub below-none : {x : Edge} → EdgeOf s direction r l l′ x → x ≡ Nothing → EdgeBelow s direction c k l l′ Nothing
