@@ -3,7 +3,6 @@
 ghost use Rattle.green.specs.Store.{here};
 ghost use Rattle.green.specs.Valid.{Valid};
 
-mod files;
 mod walk;
 
 use libc::STDOUT_FILENO;

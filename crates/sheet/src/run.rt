@@ -41,7 +41,7 @@ pub enum Verdict {
     Refused(Refusal),
 }
 
-fn verdict_of(answer: Answer) -> Verdict
+pub fn verdict_of(answer: Answer) -> Verdict
     ensures { λ r. ⌜ refusal r ≡ refusalIn answer ⌝ }
 {
     match answer {
@@ -52,7 +52,7 @@ fn verdict_of(answer: Answer) -> Verdict
 }
 
 // How many bytes of the text an event takes.
-fn taken(word: u32, operand: u32) -> usize
+pub fn taken(word: u32, operand: u32) -> usize
     ensures { λ r. ⌜ r ≡ takenOf (codeOf word) operand ⌝ }
 {
     if word / 65536 == 1 {
@@ -63,7 +63,7 @@ fn taken(word: u32, operand: u32) -> usize
 }
 
 // After the last event: text left over comes first, then the rule of `finish`.
-fn end_run(
+pub fn end_run(
     records: &[u64],
     children: &[u64],
     text: &[u8],
@@ -96,6 +96,7 @@ fn end_run(
         Made::Refused(why) => Ended::Refused(why, n),
     }
 }
+
 // The events of a sheet that is well formed, put to a new builder.
 fn run_events(
     records: &mut [u64],

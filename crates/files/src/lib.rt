@@ -1,0 +1,51 @@
+// Files by name, read into lent buffers. One that cannot be opened or read is named on standard error.
+
+ghost use Prim.Native.Nat.{_≤_};
+ghost use lib.ListN.{length};
+
+pub struct Read {
+    pub ok: bool,
+    pub count: usize,
+}
+
+// A descriptor, or a negative number.
+pub fn open(path: &[u8]) -> i32 {
+    let fd = os::open_read(path);
+    if fd < 0 {
+        os::fail(path);
+    }
+    fd
+}
+
+// As much of what is left of an open file as the buffer takes.
+pub fn read_part(fd: i32, path: &[u8], buf: &mut [u8]) -> Read
+    ensures { λ r. ⌜ r .count ≤ length (now (buf .exit)) ⌝ }
+{
+    let n = io::read_full(fd, buf);
+    let mut probe = [0u8; 1];
+    // fewer bytes came: the file ends here, if a further read says so; a folder, say, cannot be read
+    if n < buf.len() && libc::read(fd, &mut probe) != 0 {
+        os::fail(path);
+        return Read {
+            ok: false,
+            count: n,
+        };
+    }
+    Read { ok: true, count: n }
+}
+
+// As much of a file as the buffer takes.
+pub fn read_file(path: &[u8], buf: &mut [u8]) -> Read
+    ensures { λ r. ⌜ r .count ≤ length (now (buf .exit)) ⌝ }
+{
+    let fd = open(path);
+    if fd < 0 {
+        return Read {
+            ok: false,
+            count: 0,
+        };
+    }
+    let read = read_part(fd, path, buf);
+    libc::close(fd);
+    read
+}
