@@ -1,16 +1,12 @@
 -- With each call fewer words of the longest script are left. Assumes nothing.
 use Prim.Native.Nat.{ℕ, _*_, _/_, _≤_, _<_}
 use native.Mathlib.Omega.{arith}
-use mathlib.Core.Path.{_≡_, sym, _∙_}
+use mathlib.Core.Path.{_≡_, sym}
 use mathlib.Core.List.{List}
-use mathlib.Core.Bool.{Bool, true, false, not, true≢false}
+use mathlib.Core.Bool.{Bool, true, false, not}
 use lib.ListN.{length, take}
 use lib.Seq.{length-take-le}
 use borrow.Author.Tests.{not-false}
-
--- where nothing more comes, nothing is said of what comes
-pub stopped : {more : Bool} {A : Type 0} → more ≡ false → more ≡ true → A
-stopped p q = absurd (true≢false (sym q ∙ p))
 
 module _ {more : Bool} {l k : ℕ} (h : more ≡ true → l < k) (q : not more ≡ false) where
   pub fewer : l < k
@@ -26,9 +22,6 @@ module _ {more : Bool} {l k : ℕ} (h : more ≡ true → l < k) (q : not more �
 pub same-fewer : {more : Bool} {l k w : ℕ} → (more ≡ true → l ≡ k) → k < w → more ≡ true → l < w
 same-fewer e h m = let z = e m in omega (arith, h, z)
 
--- whole words of bytes, and whole records of words, at the start of a place
-pub words-length : (w : ℕ) (l : List ℕ) → w ≤ length l / 4 → 4 * w ≡ length (take (4 * w) l)
-words-length w l h = sym (length-take-le (4 * w) l (omega arith))
-
+-- r whole records at the start of their place
 pub records-length : (r : ℕ) (l : List ℕ) → r ≤ length l / 8 → 8 * r ≡ length (take (8 * r) l)
 records-length r l h = sym (length-take-le (8 * r) l (omega arith))

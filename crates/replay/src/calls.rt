@@ -7,9 +7,8 @@ ghost use Rattle.green.specs.Store.{here};
 ghost use Rattle.green.specs.Valid.{Valid};
 use crate::elements;
 use crate::runs;
-use crate::script;
-use crate::script::Store;
 use crate::show;
+use script::Store;
 
 // Reads the `m` words of call `op`, and prints the reply. Whether the script goes on.
 fn answer(

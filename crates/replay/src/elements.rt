@@ -2,7 +2,6 @@
 
 ghost use Rattle.green.specs.Store.{here};
 ghost use Rattle.green.specs.Valid.{Valid};
-use crate::script;
 use crate::show;
 use green::element;
 use green::element::Summarized;

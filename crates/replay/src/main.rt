@@ -3,7 +3,6 @@
 mod calls;
 mod elements;
 mod runs;
-mod script;
 mod show;
 
 // The script's stores in turn.

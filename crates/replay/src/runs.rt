@@ -9,7 +9,6 @@ ghost use Rattle.green.specs.Store.{here, entered, entries, lent};
 ghost use Rattle.green.specs.Valid.{Valid};
 ghost use Rattle.builder.specs.Places.{builderHere, builderOf, Standing};
 ghost use Rattle.sheet.specs.Ran.{Ran};
-use crate::script;
 use crate::show;
 use sheet::event;
 use sheet::format;

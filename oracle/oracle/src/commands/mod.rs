@@ -6,6 +6,7 @@ mod gen;
 mod list;
 mod options;
 mod replay;
+mod sample;
 
 use std::{fs, path::Path, process::ExitCode};
 
@@ -24,6 +25,8 @@ use: oracle replay FILE
          a script that shows a difference is minimised, printed and on request saved
      oracle compare [PROGRAM] --script FILE [--save FILE]
          the same on one call script
+     oracle sample FILE
+         writes the call script of the stored sample
      oracle list SHEET TEXT
          prints what document 01's program `list` prints, by rowan
 ";
@@ -48,6 +51,7 @@ pub fn run(words: &[String]) -> ExitCode {
         ["gen", seed, count, folder, profile] => gen::gen(seed, count, folder, profile),
         ["exhaust", events, ref rest @ ..] => exhaust::exhaust(events, rest),
         ["compare", ref rest @ ..] => compare::compare(rest),
+        ["sample", file] => sample::sample(file),
         ["list", sheet, text] => list::list(sheet, text),
         _ => Err(Failure::Use),
     };

@@ -6,11 +6,13 @@ mod exhaust;
 mod paths;
 mod queries;
 mod random;
+mod sample;
 mod script;
 mod sheets;
 
 pub use exhaust::{all_calls, all_sheets};
 pub use random::Random;
+pub use sample::sample;
 pub use script::script;
 
 /// Which calls a script may hold, for programs that do not offer all of them.

@@ -6,7 +6,8 @@ use lib.ListN.{length}
 use Rattle.green.specs.Store.{store}
 use Rattle.green.specs.Valid.{Valid}
 use Rattle.green.proofs.Empty.{empty-valid}
-use Rattle.replay.proofs.Words.{stopped, fewer, fewer-than, at-most, same-fewer}
+use Rattle.script.proofs.Words.{stopped}
+use Rattle.replay.proofs.Words.{fewer, fewer-than, at-most, same-fewer}
 use borrow.Author.Needs.{needs}
 use Rattle.replay.proofs.calls.answer_all.Statement.{statement}
 use Rattle.replay.proofs.calls.answer_all.Tie as tie

@@ -1,5 +1,5 @@
 -- `next_store` meets its contract. Assumes nothing.
-use Rattle.replay.proofs.Words.{stopped}
+use Rattle.script.proofs.Words.{stopped}
 use borrow.Author.Needs.{needs}
 use Rattle.replay.proofs.calls.next_store.Statement.{statement}
 use Rattle.replay.proofs.calls.next_store.Tie as tie

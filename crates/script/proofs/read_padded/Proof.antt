@@ -1,8 +1,8 @@
 -- `read_padded` meets its contract. Assumes nothing.
-use Rattle.replay.proofs.Words.{words-length}
+use Rattle.script.proofs.Words.{words-length}
 use borrow.Author.Needs.{needs}
-use Rattle.replay.proofs.script.read_padded.Statement.{statement}
-use Rattle.replay.proofs.script.read_padded.Tie as tie
+use Rattle.script.proofs.read_padded.Statement.{statement}
+use Rattle.script.proofs.read_padded.Tie as tie
 
 words-of-requires : tie.Need-words-of-requires
 words-of-requires c κs = search needs

@@ -2,8 +2,8 @@
 use Prim.Native.Nat.{_-_}
 use lib.ListN.{length}
 use borrow.Author.Needs.{needs}
-use Rattle.replay.proofs.script.is_padded.Statement.{statement}
-use Rattle.replay.proofs.script.is_padded.Tie as tie
+use Rattle.script.proofs.is_padded.Statement.{statement}
+use Rattle.script.proofs.is_padded.Tie as tie
 
 abbrev Inv-loop : tie.InvT-loop
 Inv-loop bytes from i₀ t4 i = Unit {0}

@@ -1,8 +1,8 @@
 -- `read_head` meets its contract. Assumes nothing.
-use Rattle.replay.proofs.Words.{stopped}
+use Rattle.script.proofs.Words.{stopped}
 use borrow.Author.Needs.{needs}
-use Rattle.replay.proofs.script.read_head.Statement.{statement}
-use Rattle.replay.proofs.script.read_head.Tie as tie
+use Rattle.script.proofs.read_head.Statement.{statement}
+use Rattle.script.proofs.read_head.Tie as tie
 
 slice-aggregate-fill : tie.Need-slice-aggregate-fill
 slice-aggregate-fill c = search needs

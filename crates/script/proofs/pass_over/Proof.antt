@@ -1,7 +1,7 @@
 -- `pass_over` is safe and ends: the words that are left fall. Assumes nothing.
 use borrow.Author.Needs.{needs}
-use Rattle.replay.proofs.script.pass_over.Statement.{statement}
-use Rattle.replay.proofs.script.pass_over.Tie as tie
+use Rattle.script.proofs.pass_over.Statement.{statement}
+use Rattle.script.proofs.pass_over.Tie as tie
 
 abbrev Inv-loop : tie.InvT-loop
 Inv-loop fd m left₀ left = Unit {0}
