@@ -5,9 +5,9 @@ ghost use mathlib.Core.Bool.{true, false};
 ghost use Prim.Native.Nat.{_<_};
 ghost use Rattle.green.specs.Store.{here};
 ghost use Rattle.green.specs.Valid.{Valid};
-use crate::elements;
-use crate::runs;
-use crate::show;
+use replies::elements;
+use replies::runs;
+use replies::show;
 use script::Store;
 
 // Reads the `m` words of call `op`, and prints the reply. Whether the script goes on.

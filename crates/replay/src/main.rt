@@ -1,9 +1,6 @@
 // The program `replay`: puts the calls of the file `calls` (docs/REPLAY.md) to the port, and prints the replies.
 
 mod calls;
-mod elements;
-mod runs;
-mod show;
 
 // The script's stores in turn.
 fn stores(

@@ -1,9 +1,9 @@
 -- `run_each` keeps the store in order. Assumes nothing.
 use mathlib.Core.Path.{refl, sym, _∙_}
-use Rattle.replay.proofs.Fresh.{fresh-standing, fresh-builder}
+use Rattle.replies.proofs.Fresh.{fresh-standing, fresh-builder}
 use borrow.Author.Needs.{needs}
-use Rattle.replay.proofs.runs.run_each.Statement.{statement}
-use Rattle.replay.proofs.runs.run_each.Tie as tie
+use Rattle.replies.proofs.runs.run_each.Statement.{statement}
+use Rattle.replies.proofs.runs.run_each.Tie as tie
 
 is-malformed-requires : tie.Need-is-malformed-requires
 is-malformed-requires c κs = search needs

@@ -2,8 +2,8 @@
 use mathlib.Core.Path.{sym}
 use lib.Seq.{length-take-le}
 use borrow.Author.Needs.{needs}
-use Rattle.replay.proofs.show.put_counts.Statement.{statement}
-use Rattle.replay.proofs.show.put_counts.Tie as tie
+use Rattle.replies.proofs.show.put_counts.Statement.{statement}
+use Rattle.replies.proofs.show.put_counts.Tie as tie
 
 element-copy-out-add-number : tie.Need-element-copy-out-add-number
 element-copy-out-add-number c = search needs

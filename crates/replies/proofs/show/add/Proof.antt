@@ -3,8 +3,8 @@ use Prim.Native.Nat.{_-_, _≤_}
 use mathlib.Core.Path.{_≡_}
 use lib.ListN.{length}
 use borrow.Author.Needs.{needs}
-use Rattle.replay.proofs.show.add.Statement.{statement}
-use Rattle.replay.proofs.show.add.Tie as tie
+use Rattle.replies.proofs.show.add.Statement.{statement}
+use Rattle.replies.proofs.show.add.Tie as tie
 
 abbrev Inv-loop : tie.InvT-loop
 Inv-loop line₀ n bytes at₀ i₀ line at i = (length line ≡ length line₀) × (at ≤ length line₀)
