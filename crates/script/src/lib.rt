@@ -3,7 +3,7 @@
 
 ghost use mathlib.Core.Path.{_≡_};
 ghost use mathlib.Core.Bool.{true, false};
-ghost use Prim.Native.Nat.{_*_, _≤_, _<_};
+ghost use Prim.Native.Nat.{_+_, _*_, _≤_, _<_, min};
 ghost use lib.ListN.{length};
 use libc::STDERR_FILENO;
 use sheet::format::u32_at;
@@ -82,13 +82,13 @@ fn widen(x: u32) -> usize {
 
 // How many words `n` bytes fill.
 fn words_of(n: usize) -> usize
-    ensures { λ r. ⌜ n ≤ 4 * r ⌝ }
+    ensures { λ r. ⌜ (n ≤ 4 * r) × (4 * r < n + 4) ⌝ }
 {
     n / 4 + (n % 4 + 3) / 4
 }
 
 pub fn least(a: usize, b: usize) -> usize
-    ensures { λ r. ⌜ r ≤ b ⌝ }
+    ensures { λ r. ⌜ r ≡ min a b ⌝ }
 {
     if a < b { a } else { b }
 }

@@ -1,7 +1,5 @@
 -- `on_store` meets its contract. Assumes nothing.
-use mathlib.Core.Path.{sym}
-use lib.Seq.{length-take-le}
-use Rattle.replay.proofs.Words.{records-length}
+use Rattle.replay.proofs.Words.{lent-records, lent-length}
 use borrow.Author.Needs.{needs}
 use Rattle.replay.proofs.calls.on_store.Statement.{statement}
 use Rattle.replay.proofs.calls.on_store.Tie as tie
@@ -22,19 +20,19 @@ slice-relend-prefix-answer-all : tie.Need-slice-relend-prefix-answer-all
 slice-relend-prefix-answer-all c = search needs
 
 slice-aggregate-answer-all : tie.Need-slice-aggregate-answer-all
-slice-aggregate-answer-all c = records-length (c .before .before .before .least .result) (c .before .before .before .before .before .before .before .before .before .args .records .now) (c .before .before .before .least .ensures)
+slice-aggregate-answer-all c = lent-records _ (c .before .before .before .least .result) (c .before .before .before .before .before .before .before .before .before .args .records .now) (c .before .before .before .least .ensures)
 
 slice-relend-prefix-answer-all-2 : tie.Need-slice-relend-prefix-answer-all-2
 slice-relend-prefix-answer-all-2 c = search needs
 
 slice-aggregate-answer-all-2 : tie.Need-slice-aggregate-answer-all-2
-slice-aggregate-answer-all-2 c = sym (length-take-le _ _ (c .before .before .before .least2 .ensures))
+slice-aggregate-answer-all-2 c = lent-length _ (c .before .before .before .before .before .before .before .before .before .before .args .children .now) (c .before .before .before .least2 .ensures)
 
 slice-relend-prefix-answer-all-3 : tie.Need-slice-relend-prefix-answer-all-3
 slice-relend-prefix-answer-all-3 c = search needs
 
 slice-aggregate-answer-all-3 : tie.Need-slice-aggregate-answer-all-3
-slice-aggregate-answer-all-3 c = sym (length-take-le _ _ (c .before .before .before .least3 .ensures))
+slice-aggregate-answer-all-3 c = lent-length _ (c .before .before .before .before .before .before .before .before .before .before .before .args .text .now) (c .before .before .before .least3 .ensures)
 
 answer-all-requires : tie.Need-answer-all-requires
 answer-all-requires c κs = search needs
