@@ -9,6 +9,7 @@ ghost use Rattle.green.specs.Store.{here, entered, entries, lent};
 ghost use Rattle.green.specs.Valid.{Valid};
 ghost use Rattle.builder.specs.Places.{builderHere, builderOf, Standing};
 ghost use Rattle.sheet.specs.Ran.{Ran};
+ghost use Rattle.replies.specs.RanAlone.{RanAlone};
 use crate::show;
 use sheet::event;
 use sheet::format;
@@ -75,6 +76,7 @@ fn run_events(
     )
 }
 
+// Any sheet and text, with a line for each accepted event.
 fn run_each(
     records: &mut [u64],
     children: &mut [u64],
@@ -84,7 +86,7 @@ fn run_each(
     source: &[u8],
 ) -> Ended
     requires { ⌜ Valid (here records children text used) ⌝ }
-    ensures { λ _. ⌜ Valid (here (records .exit) (children .exit) (text .exit) (used .exit)) ⌝ }
+    ensures { λ r. ⌜ RanAlone (entered records children text used) (here (records .exit) (children .exit) (text .exit) (used .exit)) (runOf (lent (entered records children text used)) (entries (entered records children text used)) (now (sheet .entry)) (now (source .entry))) r ⌝ }
 {
     if format::is_malformed(sheet, source) {
         return Ended::Refused(Refusal::Malformed, 0);
@@ -107,6 +109,7 @@ fn run_each(
     )
 }
 
+// The same with no such lines: the proved run itself.
 fn run_whole(
     records: &mut [u64],
     children: &mut [u64],
@@ -116,7 +119,7 @@ fn run_whole(
     source: &[u8],
 ) -> Ended
     requires { ⌜ Valid (here records children text used) ⌝ }
-    ensures { λ _. ⌜ Valid (here (records .exit) (children .exit) (text .exit) (used .exit)) ⌝ }
+    ensures { λ r. ⌜ RanAlone (entered records children text used) (here (records .exit) (children .exit) (text .exit) (used .exit)) (runOf (lent (entered records children text used)) (entries (entered records children text used)) (now (sheet .entry)) (now (source .entry))) r ⌝ }
 {
     let mut parents = [0u32; 128];
     let mut waiting = [0u32; 4096];

@@ -1,6 +1,6 @@
--- `run_each` keeps the store in order. Assumes nothing.
+-- `run_each` meets its contract. Assumes nothing.
 use mathlib.Core.Path.{refl, sym, _∙_}
-use Rattle.replies.proofs.Fresh.{fresh-standing, fresh-builder}
+use Rattle.replies.proofs.Fresh.{fresh-standing, fresh-builder, alone, alone-malformed}
 use borrow.Author.Needs.{needs}
 use Rattle.replies.proofs.runs.run_each.Statement.{statement}
 use Rattle.replies.proofs.runs.run_each.Tie as tie
@@ -9,7 +9,7 @@ is-malformed-requires : tie.Need-is-malformed-requires
 is-malformed-requires c κs = search needs
 
 returns : tie.Need-returns
-returns c = search needs
+returns c = alone-malformed (c .before .before .before .before .before .before .before .args .sheet .now) (c .before .before .before .before .before .before .before .args .source .now) (c .before .before .before .before .before .before .before .pre) (sym (c .before .is-malformed .ensures) ∙ c .if1 .taken) refl
 
 slice-aggregate-run-events : tie.Need-slice-aggregate-run-events
 slice-aggregate-run-events c = search needs
@@ -33,7 +33,7 @@ same-length-3 : tie.Need-same-length-3
 same-length-3 c = search needs
 
 returns-2 : tie.Need-returns-2
-returns-2 c = search needs
+returns-2 c = alone (c .before .before .before .before .before .before .before .before .before .run-events .ensures)
 
 pub run-each-spec : {M : Type 1} → statement M
 run-each-spec =
