@@ -7,8 +7,8 @@ use mathlib.Core.Path.{_≡_, refl, sym, ap, _∙_}
 use mathlib.Core.List.{List, [], _∷_, _++_, map}
 use mathlib.Core.Bool.{Bool, true, false, cond, _||_}
 use lib.Dec.{ltb}
-use lib.ListN.{length, getD, take, drop, set, take-append-drop}
-use lib.Seq.{slice, paste-suc, length-take-le, take-take, take-add, take-append-add, drop-append-add, drop-drop, drop-at}
+use lib.ListN.{length, getD, take, drop, set}
+use lib.Seq.{slice, paste-suc, length-take-le, take-add, take-append-add, drop-append-add, drop-drop, drop-at}
 use borrow.Author.Tests.{ltb-false}
 use Rattle.definitions.specs.Prelude.{Result, ok, refused}
 use Rattle.definitions.specs.Tree.{isNode, textLen}
@@ -28,14 +28,15 @@ use Rattle.cursor.specs.declared.path.Side.{Side}
 use Rattle.cursor.specs.declared.path.Place.{Place}
 use Rattle.cursor.specs.declared.path.Located.{Located}
 use Rattle.cursor.specs.declared.path.Located.the-variants as located
-use Rattle.cursor.specs.Position.{at, Placed, Inner}
+use Rattle.cursor.specs.Position.{at, Placed, Inner, Reached}
 use Rattle.cursor.specs.Path.{Leads}
 use Rattle.cursor.specs.Answers.{asked}
+use Rattle.cursor.proofs.Reaching.{path-joined}
 use Rattle.cursor.proofs.Asking.{stood, asked-of, of-node, of-token}
 use Rattle.cursor_offset.specs.declared.tokens.Hits.{Hits}
 use Rattle.cursor_offset.specs.declared.tokens.Hits.the-variants.{Nothing, Single, Between}
 use Rattle.cursor_offset.specs.declared.offset.Tokens.the-variants.{At, Refused}
-use Rattle.cursor_offset.specs.Offset.{Holds, Written, Finds, Found}
+use Rattle.cursor_offset.specs.Offset.{Holds, Finds, Found}
 use Rattle.cursor_offset.specs.Answers.{AllPlaced, Told, nothing, single, between, rightPath, TellsTokens}
 
 -- one more index is copied
@@ -54,13 +55,8 @@ all-placed {h = Nothing} f = tt
 all-placed {h = Single a} f = f .written .0 .placed
 all-placed {h = Between a b} f = (f .written .0 .placed, f .written .1 .placed)
 
--- the path of a token is the one that was asked, and the indexes that are written
-joined : {s : Store} {d : ℕ} {l l′ : List ℕ} {a : Cursor} → Written s d l l′ a → take (a .depth) l′ ≡ take d l ++ slice d (a .depth) l′
-joined {d = d} {l} {l′} {a} w =
-    sym (take-append-drop d (take (a .depth) l′)) ∙ ap (λ p. p ++ slice d (a .depth) l′) (take-take d (a .depth) l′ (w .below) ∙ w .above)
-
--- the right one's once the path is copied before it
-module _ {s : Store} {d : ℕ} {r r′ : List ℕ} {b : Cursor} (w : Written s d r r′ b) (p : List ℕ) (e : length p ≡ d) (h : d ≤ length r′) where
+-- the path to the right one of two tokens, once the one that was asked is copied before it
+module _ {s : Store} {d : ℕ} {r r′ : List ℕ} {b : Cursor} (w : Reached s d r r′ b) (p : List ℕ) (e : length p ≡ d) (h : d ≤ length r′) where
   rest : length p + (b .depth - d) ≡ b .depth
   rest = omega (arith, w .below)
 
@@ -77,7 +73,7 @@ module _ {s : Store} {d : ℕ} {r r′ : List ℕ} {b : Cursor} (w : Written s d
   kept-right : drop (b .depth) (p ++ drop d r′) ≡ drop (b .depth) r
   kept-right =
       let n = b .depth - d in
-      (rw rest at (drop-append-add p (drop d r′) n)) ∙ (rw whole at (drop-drop n d r′)) ∙ w .past
+      (rw rest at (drop-append-add p (drop d r′) n)) ∙ (rw whole at (drop-drop n d r′)) ∙ w .back
 
 -- what is found is what the answer says
 abbrev answers : List Element → Result query.Answer
@@ -89,20 +85,20 @@ found-told {d = d} {l = l} m n g nothing h = record { says = ap answers (g .foun
 found-told {s} {d} {l = l} {l′} m n g (single {a} u) h =
     let w = g .written .0 in
     record {
-      says = ap (λ o. ok (query.Answer.elements (o ∷ []))) (u .0 l′ ∙ ap (λ p. shown (at (entries s) p a)) (joined w)) ∙ ap answers (g .found (take d l));
-      kept = (rw (u .1) (w .past), h ∙ g .written .1);
+      says = ap (λ o. ok (query.Answer.elements (o ∷ []))) (u .0 l′ ∙ ap (λ p. shown (at (entries s) p a)) (path-joined w)) ∙ ap answers (g .found (take d l));
+      kept = (rw (u .1) (w .back), h ∙ g .written .1);
     }
 found-told {s} {d} {l = l} {l′} {r} {r′} {r″} m n g (between {a} {b} {f = f} u v) h =
     let w = g .written .0 in
     let z = g .written .1 in
     let p = joined-right z (take d l′) (length-take-le d l′ m) n in
-    let q : take (b .depth) r″ ≡ take d l ++ slice d (b .depth) r′ = rw (h, ← w .above) p in
+    let q : take (b .depth) r″ ≡ take d l ++ slice d (b .depth) r′ = rw (h, ← w .front) p in
     record {
       says =
-          ap (λ o. ok (query.Answer.elements (o ∷ shownAt r″ f ∷ []))) (u .0 l′ ∙ ap (λ o. shown (at (entries s) o a)) (joined w))
+          ap (λ o. ok (query.Answer.elements (o ∷ shownAt r″ f ∷ []))) (u .0 l′ ∙ ap (λ o. shown (at (entries s) o a)) (path-joined w))
           ∙ ap (λ o. ok (query.Answer.elements (shown (at (entries s) (take d l ++ slice d (a .depth) l′) a) ∷ o ∷ []))) (v .0 r″ ∙ ap (λ o. shown (at (entries s) o b)) q)
           ∙ ap answers (g .found (take d l));
-      kept = (rw (u .1) (w .past), rw (v .1, h) (kept-right z (take d l′) (length-take-le d l′ m) n));
+      kept = (rw (u .1) (w .back), rw (v .1, h) (kept-right z (take d l′) (length-take-le d l′ m) n));
     }
 
 -- a refusal leaves both paths as they were
