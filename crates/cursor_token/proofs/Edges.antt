@@ -2,11 +2,11 @@
 use Prim.Native.Nat.{ℕ, zero, suc, _+_, _-_, _≤_, _<_}
 use native.Mathlib.Omega.{arith}
 use mathlib.Core.Path.{_≡_, refl, sym, ap, subst, _∙_}
-use mathlib.Core.List.{List, [], _∷_, _++_, append-assoc}
+use mathlib.Core.List.{List, [], _∷_, _++_}
 use mathlib.Core.Bool.{true, false}
 use mathlib.Core.Option.{Option, none, some, bind}
-use lib.ListN.{length, getElem?, take, drop, set}
-use lib.Seq.{slice, slice-empty, take-set-le, drop-set-lt, take-take}
+use lib.ListN.{length, getElem?, set}
+use lib.Seq.{slice-empty}
 use Rattle.definitions.specs.Tree.{Tree, token, node, Forest, nil, cons, isNode, childrenOf, count, textLen}
 use Rattle.definitions.specs.Entry.{Entry, treeAt}
 use Rattle.definitions.specs.Element.{Element, elements, children}
@@ -16,11 +16,12 @@ use Rattle.green.specs.Store.{Store, entries}
 use Rattle.utility_types.specs.declared.Direction.{Direction}
 use Rattle.utility_types.specs.declared.Direction.the-variants.{Next, Prev}
 use Rattle.cursor.specs.declared.position.Cursor.{Cursor}
-use Rattle.cursor.specs.Position.{at, Placed, Inner, childCount, ChildAt}
+use Rattle.cursor.specs.Position.{at, Placed, Inner, childCount, ChildAt, Reached}
 use Rattle.cursor.proofs.Elements.{elements-length}
 use Rattle.cursor.proofs.Positions.{children-count}
-use Rattle.cursor.proofs.Telling.{past-end, slice-set}
-use Rattle.cursor_token.specs.Edge.{edgeToken, edgeIndex, edgeAt, Reached, EdgeOf, EdgeBelow}
+use Rattle.cursor.proofs.Telling.{past-end}
+use Rattle.cursor.proofs.Reaching.{reached-here, reached-put, path-put}
+use Rattle.cursor_token.specs.Edge.{edgeToken, edgeIndex, edgeAt, EdgeOf, EdgeBelow}
 use Rattle.cursor_token.specs.declared.edge.Edge.{Edge}
 use Rattle.cursor_token.specs.declared.edge.Edge.the-variants.{Token, Nothing}
 
@@ -66,7 +67,7 @@ module _ {s : Store} {c : Cursor} (direction : Direction) (l : List ℕ) where
   pub at-leaf : Placed s c → isNode (treeAt (entries s) (c .number)) ≡ false → EdgeOf s direction c l l (Token c)
   at-leaf h n = record {
     says = λ p. rw (slice-empty (c .depth) l, append-nil p) (sym (edge-leaf direction (at (entries s) p c) n));
-    written = record { placed = h; below = omega arith; front = refl; back = refl };
+    written = reached-here h;
   }
 
   pub at-childless : Inner s c → {n : ℕ} → n ≡ childCount (entries s) c → n ≡ 0 → EdgeOf s direction c l l Nothing
@@ -96,21 +97,11 @@ module _ {s : Store} {direction : Direction} {c r : Cursor} {k : ℕ} (a : Child
     e : EdgeOf s direction r l l′ (Token f)
     e = subst (EdgeOf s direction r l l′) q z
 
-    deep : c .depth < f .depth
-    deep = omega (arith, a .depth, e .written .below)
-
     pub below-found : EdgeBelow s direction c k l (set l′ (c .depth) k) (Token f)
     unfolding bind
-    below-found = record {
-      says = λ p.
-          let z : p ++ slice (c .depth) (f .depth) (set l′ (c .depth) k) ≡ (p ++ (k ∷ [])) ++ slice (r .depth) (f .depth) l′ =
-          rw (slice-set l′ (c .depth) (f .depth) k deep (omega (arith, e .written .placed .deep)), a .depth) (sym (append-assoc p (k ∷ []) (slice (c .depth + 1) (f .depth) l′))) in
-          ap (λ q. some (at (entries s) q f)) z ∙ e .says (p ++ (k ∷ [])) ∙ rw (a .here p) refl;
-      written = record {
-        placed = e .written .placed;
-        below = omega (arith, deep);
-        front = take-set-le (c .depth) l′ (c .depth) k (omega arith)
-            ∙ sym (take-take (c .depth) (r .depth) l′ (omega (arith, a .depth))) ∙ ap (take (c .depth)) (e .written .front) ∙ take-take (c .depth) (r .depth) l (omega (arith, a .depth));
-        back = drop-set-lt (f .depth) l′ (c .depth) k deep ∙ e .written .back;
-      };
-    }
+    below-found =
+        let w : Reached s (c .depth + 1) l l′ f = rw (← a .depth) (e .written) in
+        record {
+          says = λ p. ap (λ q. some (at (entries s) q f)) (rw (a .depth) (path-put (c .depth) k w room p)) ∙ e .says (p ++ (k ∷ [])) ∙ rw (a .here p) refl;
+          written = reached-put (c .depth) k w room;
+        }

@@ -6,8 +6,7 @@ use mathlib.Core.List.{List, [], _∷_, _++_}
 use mathlib.Core.Bool.{Bool, true, false}
 use mathlib.Core.Option.{Option, none, some, bind}
 use borrow.Author.Tests.{ltb-true}
-use lib.ListN.{length, getD, getElem?, take, drop, take-append-drop}
-use lib.Seq.{slice, take-take}
+use lib.ListN.{getD, getElem?, take}
 use Rattle.definitions.specs.Prelude.{Result, refused, option}
 use Rattle.definitions.specs.Tree.{Tree, isNode}
 use Rattle.definitions.specs.Entry.{Entry, treeAt}
@@ -28,14 +27,15 @@ use Rattle.cursor.specs.declared.path.Parent.the-variants.{Of, NoParent}
 use Rattle.cursor.specs.declared.path.Place.{Place}
 use Rattle.cursor.specs.declared.path.Located.{Located}
 use Rattle.cursor.specs.declared.path.Located.the-variants.{At}
-use Rattle.cursor.specs.Position.{at, Placed, Inner, childCount}
+use Rattle.cursor.specs.Position.{at, Placed, Inner, childCount, Reached}
 use Rattle.cursor.specs.Path.{hasBeside, Branch, branch, branchOf, Above, Leads}
 use Rattle.cursor.specs.Answers.{Tells, asked}
 use Rattle.cursor.proofs.Paths.{above-level}
 use Rattle.cursor.proofs.Telling.{none-told, element-told}
+use Rattle.cursor.proofs.Reaching.{path-joined}
 use Rattle.cursor.proofs.Branching.{next, prev, following-branch, preceding-branch}
 use Rattle.cursor.proofs.Asking.{stood, asked-of, leads-along}
-use Rattle.cursor_token.specs.Edge.{edgeToken, edgeQuestion, adjacentQuestion, edgeAt, Reached, Written, EdgeOf, EdgeBelow}
+use Rattle.cursor_token.specs.Edge.{edgeToken, edgeQuestion, adjacentQuestion, edgeAt, Written, EdgeOf, EdgeBelow}
 use Rattle.cursor_token.specs.Adjacent.{sideOf, besideIndex}
 use Rattle.cursor_token.specs.declared.edge.Edge.{Edge}
 use Rattle.cursor_token.specs.declared.edge.Edge.the-variants.{Token, Nothing}
@@ -57,9 +57,7 @@ module _ (s : Store) (d : ℕ) (l l′ : List ℕ) {x : Edge} (w : Written s d l
 
     pub token-told : {y : SyntaxElement} → ((m : List ℕ) → shownAt m y ≡ shown (at (entries s) (take (f .depth) m) f)) × (y .depth ≡ f .depth) → Tells l l′ (maybe o) (answer.Element y)
     token-told {y} g =
-        let path : take d l ++ slice d (f .depth) l′ ≡ take (f .depth) l′ =
-        rw (← reached .front, ← take-take d (f .depth) l′ (reached .below)) (take-append-drop d (take (f .depth) l′)) in
-        let found : o ≡ some (at (entries s) (take (f .depth) l′) f) = sym (ap (λ z. some (at (entries s) z f)) (sym path) ∙ ap (edgeAt (entries s) d l′ (take d l)) (sym q) ∙ e) in
+        let found : o ≡ some (at (entries s) (take (f .depth) l′) f) = sym (ap (λ z. some (at (entries s) z f)) (path-joined reached) ∙ ap (edgeAt (entries s) d l′ (take d l)) (sym q) ∙ e) in
         element-told found (g .0 l′) (rw (g .1) (reached .back))
 
 -- first_token and last_token
