@@ -6,7 +6,7 @@ ghost use Rattle.green.specs.Valid.{Valid};
 mod walk;
 
 use libc::STDOUT_FILENO;
-use sheet::run::Ended;
+use sheet_run::Ended;
 
 // A run with a builder of its own.
 fn run(
@@ -24,7 +24,7 @@ fn run(
     let mut waiting = [0u32; 4096];
     let mut registers = [0u32; 64];
     let mut counts = [0usize; 2];
-    sheet::run::run(
+    sheet_run::run(
         records,
         children,
         text,

@@ -10,9 +10,9 @@ use Rattle.definitions.specs.Run.{Run, refusedAt, run}
 use Rattle.green.specs.Store.{Store, lent, entries}
 use Rattle.green.specs.Valid.{Valid}
 use Rattle.builder.specs.Places.{Places, places, builderOf, Standing}
-use Rattle.sheet.specs.Ran.{endOf, Roomy, Ran}
-use Rattle.sheet.specs.declared.run.Ended.{Ended}
-use Rattle.sheet.proofs.Starting.{nothing-run, new-builder, new-standing}
+use Rattle.sheet_run.specs.Ran.{endOf, Roomy, Ran}
+use Rattle.sheet_run.specs.declared.Ended.{Ended}
+use Rattle.sheet_run.proofs.Starting.{nothing-run, new-builder, new-standing}
 use Rattle.replies.specs.RanAlone.{RanAlone}
 
 module _ {s : Store} (parents waiting : List ℕ) (v : Valid s) (p : length parents ≡ 128) (w : length waiting ≡ 4096) where

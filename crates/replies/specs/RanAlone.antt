@@ -4,8 +4,8 @@ use Rattle.definitions.specs.Run.{Run}
 use Rattle.green.specs.Store.{Store, entries}
 use Rattle.green.specs.Valid.{Valid}
 use Rattle.green_new.specs.Ready.{Untouched}
-use Rattle.sheet.specs.Ran.{endOf}
-use Rattle.sheet.specs.declared.run.Ended.{Ended}
+use Rattle.sheet_run.specs.Ran.{endOf}
+use Rattle.sheet_run.specs.declared.Ended.{Ended}
 
 -- `Ran` but for the builder's places, which are gone
 pub record RanAlone (s s′ : Store) (whole : Run) (answer : Ended) : Type 0 where

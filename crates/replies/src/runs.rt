@@ -8,14 +8,13 @@ ghost use Rattle.definitions.specs.Run.{run as runOf};
 ghost use Rattle.green.specs.Store.{here, entered, entries, lent};
 ghost use Rattle.green.specs.Valid.{Valid};
 ghost use Rattle.builder.specs.Places.{builderHere, builderOf, Standing};
-ghost use Rattle.sheet.specs.Ran.{Ran};
+ghost use Rattle.sheet_run.specs.Ran.{Ran};
 ghost use Rattle.replies.specs.RanAlone.{RanAlone};
 use crate::show;
 use sheet::event;
 use sheet::format;
-use sheet::run;
-use sheet::run::Ended;
-use sheet::run::Verdict;
+use sheet_run::Ended;
+use sheet_run::Verdict;
 use utility_types::Refusal;
 
 // The events of a sheet that is well formed, put to a new builder: as in the proved run, with a line for each accepted event.
@@ -54,15 +53,15 @@ fn run_events(
             operand,
             &source[at..],
         );
-        let verdict = run::verdict_of(answer);
+        let verdict = sheet_run::verdict_of(answer);
         if let Verdict::Refused(why) = verdict {
             return Ended::Refused(why, i);
         }
         show::put_event(answer, used);
-        at += run::taken(word, operand);
+        at += sheet_run::taken(word, operand);
         i += 1;
     }
-    run::end_run(
+    sheet_run::end_run(
         records,
         children,
         text,
@@ -125,7 +124,7 @@ fn run_whole(
     let mut waiting = [0u32; 4096];
     let mut registers = [0u32; 64];
     let mut counts = [0usize; 2];
-    run::run(
+    sheet_run::run(
         records,
         children,
         text,

@@ -6,7 +6,7 @@ ghost use lib.ListN.{length};
 use builder::state::Answer;
 use green::element::Summary;
 use libc::STDOUT_FILENO;
-use sheet::run::Ended;
+use sheet_run::Ended;
 use utility_types::Refusal;
 use utility_types::refusal_number;
 

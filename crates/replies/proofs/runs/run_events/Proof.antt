@@ -6,8 +6,8 @@ use borrow.Author.Needs.{needs}
 use Rattle.definitions.specs.Sheet.{eventCount}
 use Rattle.green.specs.Store.{store}
 use Rattle.builder.specs.Places.{places}
-use Rattle.sheet.specs.Ran.{refusal}
-use Rattle.sheet.proofs.Going.{Going, going-start, going-on, text-place, going-refused, going-over, left-part, sized}
+use Rattle.sheet_run.specs.Ran.{refusal}
+use Rattle.sheet_run.proofs.Going.{Going, going-start, going-on, text-place, going-refused, going-over, left-part, sized}
 use Rattle.replies.proofs.runs.run_events.Statement.{statement}
 use Rattle.replies.proofs.runs.run_events.Tie as tie
 

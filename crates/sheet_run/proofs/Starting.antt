@@ -14,9 +14,9 @@ use Rattle.green.specs.Store.{Store, lent, entries}
 use Rattle.green.specs.Valid.{AllEvents, Valid}
 use Rattle.builder.specs.Places.{Places, places, opened, waited, parentsTo, register, builderOf, Nested, Standing}
 use Rattle.builder.proofs.Steps.{untouched-same}
-use Rattle.sheet.specs.declared.run.Ended.{Ended}
-use Rattle.sheet.specs.Ran.{endOf, Roomy, Ran}
-use Rattle.sheet.proofs.Running.{malformed}
+use Rattle.sheet_run.specs.declared.Ended.{Ended}
+use Rattle.sheet_run.specs.Ran.{endOf, Roomy, Ran}
+use Rattle.sheet_run.proofs.Running.{malformed}
 
 pub nothing-run : {s : Store} {b : Places} (sheet source : List ℕ) {e : Ended} → Valid s → Roomy b → isMalformed sheet source ≡ true → endOf e ≡ refusedAt 1 0
     → Ran s s b (run (lent s) (entries s) sheet source) e

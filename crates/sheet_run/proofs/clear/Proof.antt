@@ -2,9 +2,9 @@
 use Prim.Native.Nat.{_-_}
 use lib.ListN.{length}
 use borrow.Author.Needs.{needs}
-use Rattle.sheet.proofs.Clearing.{Cleared, cleared-none, cleared-one, cleared-all}
-use Rattle.sheet.proofs.run.clear.Statement.{statement}
-use Rattle.sheet.proofs.run.clear.Tie as tie
+use Rattle.sheet_run.proofs.Clearing.{Cleared, cleared-none, cleared-one, cleared-all}
+use Rattle.sheet_run.proofs.clear.Statement.{statement}
+use Rattle.sheet_run.proofs.clear.Tie as tie
 
 abbrev Inv-loop : tie.InvT-loop
 Inv-loop registers₀ i₀ registers i = Cleared registers₀ registers i

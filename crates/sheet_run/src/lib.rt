@@ -10,11 +10,11 @@ ghost use Rattle.definitions.specs.Run.{taken as takenOf, endsAt, run as runOf}
 ghost use Rattle.green.specs.Store.{here, entered, entries, lent};
 ghost use Rattle.green.specs.Valid.{Valid};
 ghost use Rattle.builder.specs.Places.{builderHere, builderEntered, builderOf, stateOf, Standing};
-ghost use Rattle.sheet.specs.Ran.{refusal, refusalIn, endOf, Roomy, Ran};
-use crate::event;
-use crate::format;
+ghost use Rattle.sheet_run.specs.Ran.{refusal, refusalIn, endOf, Roomy, Ran};
 use builder::state;
 use builder::state::Answer;
+use sheet::event;
+use sheet::format;
 use utility_types::Made;
 use utility_types::Refusal;
 

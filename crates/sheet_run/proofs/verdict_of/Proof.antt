@@ -1,9 +1,9 @@
 -- `verdict_of` meets its contract. Assumes nothing.
 use mathlib.Core.Path.{sym, ap}
-use Rattle.sheet.specs.Ran.{refusalIn}
+use Rattle.sheet_run.specs.Ran.{refusalIn}
 use borrow.Author.Needs.{needs}
-use Rattle.sheet.proofs.run.verdict_of.Statement.{statement}
-use Rattle.sheet.proofs.run.verdict_of.Tie as tie
+use Rattle.sheet_run.proofs.verdict_of.Statement.{statement}
+use Rattle.sheet_run.proofs.verdict_of.Tie as tie
 
 enum-told : tie.Need-enum-told
 enum-told c = search needs

@@ -12,11 +12,11 @@ use Rattle.green_new.specs.Ready.{Untouched}
 use Rattle.builder.specs.Places.{Places}
 use Rattle.builder.specs.declared.state.Answer.{Answer}
 use Rattle.builder.specs.declared.state.Answer.the-variants.{Yielded, Accepted as Taken, Refused as Denied}
-use Rattle.sheet.specs.declared.run.Verdict.{Verdict}
-use Rattle.sheet.specs.declared.run.Verdict.the-variants.{Accepted}
-use Rattle.sheet.specs.declared.run.Verdict.the-variants as verdict
-use Rattle.sheet.specs.declared.run.Ended.{Ended}
-use Rattle.sheet.specs.declared.run.Ended.the-variants.{Root, Refused}
+use Rattle.sheet_run.specs.declared.Verdict.{Verdict}
+use Rattle.sheet_run.specs.declared.Verdict.the-variants.{Accepted}
+use Rattle.sheet_run.specs.declared.Verdict.the-variants as verdict
+use Rattle.sheet_run.specs.declared.Ended.{Ended}
+use Rattle.sheet_run.specs.declared.Ended.the-variants.{Root, Refused}
 
 abbrev pub endOf : Ended → End
 endOf (Root n) = root n

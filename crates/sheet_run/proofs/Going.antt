@@ -26,10 +26,10 @@ use Rattle.builder.proofs.Steps.{untouched-same}
 use Rattle.builder.specs.Stepped.{answerOf, yieldIn, stateAfter, Stepped}
 use Rattle.builder.specs.declared.state.Answer.{Answer}
 use Rattle.builder.specs.declared.state.Answer.the-variants.{Yielded, Accepted as Taken, Refused as Denied}
-use Rattle.sheet.specs.declared.run.Ended.{Ended}
-use Rattle.sheet.specs.Ran.{refusalIn, endOf, Roomy, Ran}
-use Rattle.sheet.proofs.Growing.{Grows, event-grows, event-takes}
-use Rattle.sheet.proofs.Running.{eventAt, takenAt, Running, running-start, running-accepted, running-refused, running-over}
+use Rattle.sheet_run.specs.declared.Ended.{Ended}
+use Rattle.sheet_run.specs.Ran.{refusalIn, endOf, Roomy, Ran}
+use Rattle.sheet_run.proofs.Growing.{Grows, event-grows, event-takes}
+use Rattle.sheet_run.proofs.Running.{eventAt, takenAt, Running, running-start, running-accepted, running-refused, running-over}
 
 -- counts do not fall
 module _ {s s′ : Store} (v : Valid s) (v′ : Valid s′) (g : Grows (entries s) (entries s′)) where

@@ -2,8 +2,8 @@
 use borrow.Author.Tests.{eq-eqb, ne-eqb}
 use Rattle.definitions.specs.Sheet.{codeOf}
 use Rattle.definitions.specs.Run.{taken}
-use Rattle.sheet.proofs.run.taken.Statement.{statement}
-use Rattle.sheet.proofs.run.taken.Tie as tie
+use Rattle.sheet_run.proofs.taken.Statement.{statement}
+use Rattle.sheet_run.proofs.taken.Tie as tie
 
 returns : tie.Need-returns
 unfolding codeOf taken

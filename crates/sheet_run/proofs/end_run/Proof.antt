@@ -1,8 +1,8 @@
 -- `end_run` meets its contract. Assumes nothing.
-use Rattle.sheet.proofs.Ending.{left-over, to-root, to-refusal}
+use Rattle.sheet_run.proofs.Ending.{left-over, to-root, to-refusal}
 use borrow.Author.Needs.{needs}
-use Rattle.sheet.proofs.run.end_run.Statement.{statement}
-use Rattle.sheet.proofs.run.end_run.Tie as tie
+use Rattle.sheet_run.proofs.end_run.Statement.{statement}
+use Rattle.sheet_run.proofs.end_run.Tie as tie
 
 returns : tie.Need-returns
 returns c = left-over _ (c .before .before .before .before .before .before .before .before .args .n) (c .before .before .before .before .before .before .before .before .args .left .now) (c .if1 .taken)

@@ -1,9 +1,9 @@
 -- `run` meets its contract. Assumes nothing.
 use mathlib.Core.Path.{refl, sym, _∙_}
-use Rattle.sheet.proofs.Starting.{nothing-run, new-builder, new-standing}
+use Rattle.sheet_run.proofs.Starting.{nothing-run, new-builder, new-standing}
 use borrow.Author.Needs.{needs}
-use Rattle.sheet.proofs.run.run.Statement.{statement}
-use Rattle.sheet.proofs.run.run.Tie as tie
+use Rattle.sheet_run.proofs.run.Statement.{statement}
+use Rattle.sheet_run.proofs.run.Tie as tie
 
 is-malformed-requires : tie.Need-is-malformed-requires
 is-malformed-requires c κs = search needs
