@@ -6,7 +6,6 @@ ghost use Prim.Native.Nat.{_<_};
 ghost use Rattle.green.specs.Store.{here};
 ghost use Rattle.green.specs.Valid.{Valid};
 use replies::elements;
-use replies::runs;
 use replies::show;
 use script::Store;
 
@@ -26,7 +25,7 @@ fn answer(
     ensures { λ _. ⌜ Valid (here (records .exit) (children .exit) (text .exit) (used .exit)) ⌝ }
 {
     match op {
-        2 | 3 => runs::answer(fd, records, children, text, used, sheet, source, op, m),
+        2 | 3 => run_replies::answer(fd, records, children, text, used, sheet, source, op, m),
         60 | 61 => elements::answer(fd, records, children, text, used, op, m),
         _ => not_offered(fd, m),
     }

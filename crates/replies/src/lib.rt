@@ -1,5 +1,4 @@
 // What `replay` answers to each call of a script: a call's words are read, it is put to the port, and its reply is printed.
 
 pub mod elements;
-pub mod runs;
 pub mod show;

@@ -8,8 +8,8 @@ use Rattle.green.specs.Store.{store}
 use Rattle.builder.specs.Places.{places}
 use Rattle.sheet_run.specs.Ran.{refusal}
 use Rattle.sheet_run.proofs.Going.{Going, going-start, going-on, text-place, going-refused, going-over, left-part, sized}
-use Rattle.replies.proofs.runs.run_events.Statement.{statement}
-use Rattle.replies.proofs.runs.run_events.Tie as tie
+use Rattle.run_replies.proofs.run_events.Statement.{statement}
+use Rattle.run_replies.proofs.run_events.Tie as tie
 
 abbrev Inv-loop : tie.InvT-loop
 Inv-loop records₀ children₀ text₀ used₀ parents₀ waiting₀ registers₀ counts₀ sheet source n at₀ i₀ records children text used parents waiting registers counts at i = Going (store records₀ children₀ text₀ used₀) sheet source n (store records children text used) (places parents waiting registers counts) at i

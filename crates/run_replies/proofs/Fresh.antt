@@ -13,7 +13,7 @@ use Rattle.builder.specs.Places.{Places, places, builderOf, Standing}
 use Rattle.sheet_run.specs.Ran.{endOf, Roomy, Ran}
 use Rattle.sheet_run.specs.declared.Ended.{Ended}
 use Rattle.sheet_run.proofs.Starting.{nothing-run, new-builder, new-standing}
-use Rattle.replies.specs.RanAlone.{RanAlone}
+use Rattle.run_replies.specs.RanAlone.{RanAlone}
 
 module _ {s : Store} (parents waiting : List ℕ) (v : Valid s) (p : length parents ≡ 128) (w : length waiting ≡ 4096) where
   abbrev fresh : Places

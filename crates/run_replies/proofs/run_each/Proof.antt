@@ -1,9 +1,9 @@
 -- `run_each` meets its contract. Assumes nothing.
 use mathlib.Core.Path.{refl, sym, _∙_}
-use Rattle.replies.proofs.Fresh.{fresh-standing, fresh-builder, alone, alone-malformed}
+use Rattle.run_replies.proofs.Fresh.{fresh-standing, fresh-builder, alone, alone-malformed}
 use borrow.Author.Needs.{needs}
-use Rattle.replies.proofs.runs.run_each.Statement.{statement}
-use Rattle.replies.proofs.runs.run_each.Tie as tie
+use Rattle.run_replies.proofs.run_each.Statement.{statement}
+use Rattle.run_replies.proofs.run_each.Tie as tie
 
 is-malformed-requires : tie.Need-is-malformed-requires
 is-malformed-requires c κs = search needs

@@ -2,8 +2,8 @@
 use mathlib.Core.Path.{sym}
 use lib.Seq.{length-take-le}
 use borrow.Author.Needs.{needs}
-use Rattle.replies.proofs.runs.answer.Statement.{statement}
-use Rattle.replies.proofs.runs.answer.Tie as tie
+use Rattle.run_replies.proofs.answer.Statement.{statement}
+use Rattle.run_replies.proofs.answer.Tie as tie
 
 read-bytes-requires : tie.Need-read-bytes-requires
 read-bytes-requires c κs = search needs
