@@ -1,12 +1,9 @@
 // Stores made through node_cache: a line for each call, with its answer and the counts in use after it.
 // stdout is what document 01 says of them.
 
-mod calls;
 mod most;
 mod room;
-mod script;
 mod sharing;
-mod show;
 
 fn main() {
     sharing::tokens();

@@ -2,9 +2,9 @@
 
 ghost use Rattle.green.specs.Store.{here};
 ghost use Rattle.green.specs.Valid.{Valid};
-use crate::calls;
-use crate::script;
-use crate::show;
+use node_cache_calls::calls;
+use node_cache_calls::script;
+use node_cache_calls::show;
 use utility_types::Made;
 use utility_types::Refusal;
 use utility_types::SyntaxKind;

@@ -1,6 +1,6 @@
 // Refusal 15: full stores, and what still has room in them.
 
-use crate::script::run;
+use node_cache_calls::script::run;
 
 pub fn nothing() {
     let mut records = [0u64; 0];

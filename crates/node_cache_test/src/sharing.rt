@@ -1,6 +1,6 @@
 // Document 01's "Marks and sharing", with room to spare.
 
-use crate::script::run;
+use node_cache_calls::script::run;
 
 // Tokens of equal kind and text have one number, and tokens that differ in one of them two.
 pub fn tokens() {

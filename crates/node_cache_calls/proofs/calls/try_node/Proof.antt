@@ -1,8 +1,8 @@
 -- `try_node` meets its contract. Assumes nothing.
 use borrow.Author.Tests.{not-false}
 use borrow.Author.Needs.{needs}
-use Rattle.node_cache_test.proofs.calls.try_node.Statement.{statement}
-use Rattle.node_cache_test.proofs.calls.try_node.Tie as tie
+use Rattle.node_cache_calls.proofs.calls.try_node.Statement.{statement}
+use Rattle.node_cache_calls.proofs.calls.try_node.Tie as tie
 
 put-node-requires : tie.Need-put-node-requires
 put-node-requires c κs = search needs

@@ -1,8 +1,8 @@
 -- `run` meets its contract. Assumes nothing.
 use borrow.Author.Needs.{needs}
 use Rattle.green.proofs.Empty.{empty-valid}
-use Rattle.node_cache_test.proofs.script.run.Statement.{statement}
-use Rattle.node_cache_test.proofs.script.run.Tie as tie
+use Rattle.node_cache_calls.proofs.script.run.Statement.{statement}
+use Rattle.node_cache_calls.proofs.script.run.Tie as tie
 
 put-requires : tie.Need-put-requires
 put-requires c κs = search needs

@@ -6,8 +6,8 @@ use lib.ListN.{length}
 use borrow.Author.Needs.{needs}
 use Rattle.green.specs.Store.{store}
 use Rattle.green.specs.Valid.{Valid}
-use Rattle.node_cache_test.proofs.script.go.Statement.{statement}
-use Rattle.node_cache_test.proofs.script.go.Tie as tie
+use Rattle.node_cache_calls.proofs.script.go.Statement.{statement}
+use Rattle.node_cache_calls.proofs.script.go.Tie as tie
 
 abbrev Inv-loop : tie.InvT-loop
 Inv-loop records₀ children₀ text₀ used₀ script i₀ records children text used i = Valid (store records children text used) × (length records ≡ length records₀) × (length children ≡ length children₀) × (length text ≡ length text₀)

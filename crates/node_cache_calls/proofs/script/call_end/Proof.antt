@@ -2,8 +2,8 @@
 use Prim.Native.Nat.{_≤_, _-_}
 use lib.ListN.{length}
 use borrow.Author.Needs.{needs}
-use Rattle.node_cache_test.proofs.script.call_end.Statement.{statement}
-use Rattle.node_cache_test.proofs.script.call_end.Tie as tie
+use Rattle.node_cache_calls.proofs.script.call_end.Statement.{statement}
+use Rattle.node_cache_calls.proofs.script.call_end.Tie as tie
 
 abbrev Inv-loop : tie.InvT-loop
 Inv-loop script i e₀ e = (i ≤ e) × (e ≤ length script)

@@ -2,8 +2,8 @@
 use mathlib.Core.Path.{sym}
 use lib.Seq.{length-take-le}
 use borrow.Author.Needs.{needs}
-use Rattle.node_cache_test.proofs.script.step.Statement.{statement}
-use Rattle.node_cache_test.proofs.script.step.Tie as tie
+use Rattle.node_cache_calls.proofs.script.step.Statement.{statement}
+use Rattle.node_cache_calls.proofs.script.step.Tie as tie
 
 slice-aggregate-put : tie.Need-slice-aggregate-put
 slice-aggregate-put c = search needs

@@ -2,8 +2,8 @@
 use Prim.Native.Nat.{_≤_, _-_}
 use lib.ListN.{length}
 use borrow.Author.Needs.{needs}
-use Rattle.node_cache_test.proofs.show.put_node.Statement.{statement}
-use Rattle.node_cache_test.proofs.show.put_node.Tie as tie
+use Rattle.node_cache_calls.proofs.show.put_node.Statement.{statement}
+use Rattle.node_cache_calls.proofs.show.put_node.Tie as tie
 
 abbrev Inv-loop : tie.InvT-loop
 Inv-loop kind numbers i₀ t6 i = i ≤ length numbers

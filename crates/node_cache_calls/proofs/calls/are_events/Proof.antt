@@ -6,9 +6,9 @@ use lib.ListN.{length}
 use borrow.Author.Tests.{not-false}
 use borrow.Author.Needs.{needs}
 use Rattle.green.specs.Store.{store, entries}
-use Rattle.node_cache_test.proofs.Events.{Passed, passed-start, passed-next, passed-end}
-use Rattle.node_cache_test.proofs.calls.are_events.Statement.{statement}
-use Rattle.node_cache_test.proofs.calls.are_events.Tie as tie
+use Rattle.node_cache_calls.proofs.Events.{Passed, passed-start, passed-next, passed-end}
+use Rattle.node_cache_calls.proofs.calls.are_events.Statement.{statement}
+use Rattle.node_cache_calls.proofs.calls.are_events.Tie as tie
 
 abbrev Inv-loop : tie.InvT-loop
 Inv-loop records children text used numbers i₀ i = Passed (entries (store records children text used)) numbers i

@@ -3,8 +3,8 @@ use Prim.Native.Nat.{_≤_, _-_}
 use mathlib.Core.Path.{_≡_}
 use lib.ListN.{length}
 use borrow.Author.Needs.{needs}
-use Rattle.node_cache_test.proofs.script.read_numbers.Statement.{statement}
-use Rattle.node_cache_test.proofs.script.read_numbers.Tie as tie
+use Rattle.node_cache_calls.proofs.script.read_numbers.Statement.{statement}
+use Rattle.node_cache_calls.proofs.script.read_numbers.Tie as tie
 
 abbrev Inv-loop : tie.InvT-loop
 Inv-loop src numbers₀ i₀ numbers i = (i ≤ length src) × (i ≤ length numbers₀) × (length numbers ≡ length numbers₀)

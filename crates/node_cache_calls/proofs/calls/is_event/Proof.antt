@@ -2,10 +2,10 @@
 use native.Mathlib.Omega.{arith}
 use mathlib.Core.Bool.{false≢true}
 use Rattle.green.proofs.Known.{known}
-use Rattle.node_cache_test.proofs.Events.{event-tag}
+use Rattle.node_cache_calls.proofs.Events.{event-tag}
 use borrow.Author.Needs.{needs}
-use Rattle.node_cache_test.proofs.calls.is_event.Statement.{statement}
-use Rattle.node_cache_test.proofs.calls.is_event.Tie as tie
+use Rattle.node_cache_calls.proofs.calls.is_event.Statement.{statement}
+use Rattle.node_cache_calls.proofs.calls.is_event.Tie as tie
 
 element-copy-out-if1 : tie.Need-element-copy-out-if1
 element-copy-out-if1 c = search needs
