@@ -26,6 +26,7 @@ fn answer(
 {
     match op {
         2 | 3 => run_replies::answer(fd, records, children, text, used, sheet, source, op, m),
+        20..=38 => query_replies::answer(fd, records, children, text, used, op, m),
         60 | 61 => elements::answer(fd, records, children, text, used, op, m),
         _ => not_offered(fd, m),
     }

@@ -11,7 +11,7 @@ use utility_types::Refusal;
 use utility_types::refusal_number;
 
 // Adds to a line of `n` bytes; how long it is then.
-fn add(line: &mut [u8], n: usize, bytes: &[u8]) -> usize
+pub fn add(line: &mut [u8], n: usize, bytes: &[u8]) -> usize
     requires { ⌜ n ≤ length (now line) ⌝ }
     ensures { λ r. ⌜ r ≤ length (now (line .exit)) ⌝ }
 {
@@ -29,7 +29,7 @@ fn add(line: &mut [u8], n: usize, bytes: &[u8]) -> usize
 }
 
 // Adds a space and a number.
-fn add_number(line: &mut [u8], n: usize, number: u64) -> usize
+pub fn add_number(line: &mut [u8], n: usize, number: u64) -> usize
     requires { ⌜ n ≤ length (now line) ⌝ }
     ensures { λ r. ⌜ r ≤ length (now (line .exit)) ⌝ }
 {

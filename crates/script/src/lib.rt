@@ -3,10 +3,12 @@
 
 ghost use mathlib.Core.Path.{_≡_};
 ghost use mathlib.Core.Bool.{true, false};
-ghost use Prim.Native.Nat.{_+_, _*_, _≤_, _<_, min};
+ghost use Prim.Native.Nat.{_+_, _*_, _^_, _≤_, _<_, min};
 ghost use lib.ListN.{length};
 use libc::STDERR_FILENO;
 use sheet::format::u32_at;
+
+pub mod path;
 
 // A script has at most 1,000,000 bytes.
 pub const MOST_WORDS: usize = 250000;
@@ -76,7 +78,9 @@ fn no_head() -> Head
 }
 
 // A word as a count.
-fn widen(x: u32) -> usize {
+fn widen(x: u32) -> usize
+    ensures { λ r. ⌜ r < 2 ^ 32 ⌝ }
+{
     x as usize
 }
 
@@ -122,12 +126,37 @@ pub struct Word {
     pub value: usize,
 }
 
-pub fn read_word(fd: i32) -> Word {
+pub fn read_word(fd: i32) -> Word
+    ensures { λ r. ⌜ r .value < 2 ^ 32 ⌝ }
+{
     let mut bytes = [0u8; 4];
     let ok = fill_whole(fd, &mut bytes);
     Word {
         ok,
         value: widen(u32_at(&bytes, 0)),
+    }
+}
+
+// The same of a call with `m` words left; `left` of them come after it.
+pub struct Taken {
+    pub ok: bool,
+    pub value: usize,
+    pub left: usize,
+}
+
+pub fn take_word(fd: i32, m: usize) -> Taken {
+    if m == 0 {
+        return Taken {
+            ok: complain(b"a call's lengths do not fit its words"),
+            value: 0,
+            left: 0,
+        };
+    }
+    let word = read_word(fd);
+    Taken {
+        ok: word.ok,
+        value: word.value,
+        left: m - 1,
     }
 }
 
@@ -199,11 +228,7 @@ fn read_padded(fd: i32, buf: &mut [u8], n: usize, m: usize) -> Bytes
 pub fn read_bytes(fd: i32, buf: &mut [u8], most: usize, m: usize) -> Bytes
     ensures { λ r. ⌜ r .count ≤ length (now (buf .exit)) ⌝ }
 {
-    if m == 0 {
-        complain(b"a call's lengths do not fit its words");
-        return no_bytes();
-    }
-    let word = read_word(fd);
+    let word = take_word(fd, m);
     if !word.ok {
         return no_bytes();
     }
@@ -211,7 +236,7 @@ pub fn read_bytes(fd: i32, buf: &mut [u8], most: usize, m: usize) -> Bytes
         complain(b"a sheet or a text is too long");
         return no_bytes();
     }
-    read_padded(fd, buf, word.value, m - 1)
+    read_padded(fd, buf, word.value, word.left)
 }
 
 // The words of a call that is not offered. Whether they are there.

@@ -1,0 +1,79 @@
+// A path among a call's words: the root's number, how many child indexes there are, and these.
+
+ghost use Prim.Native.Nat.{_≤_};
+ghost use lib.ListN.{length};
+use crate::complain;
+use crate::has_words;
+use crate::least;
+use crate::pass_over;
+use crate::read_word;
+use crate::take_word;
+
+// A path whose first 64 indexes were put into a lent place; `left` of the call's words come after it.
+pub struct Path {
+    pub ok: bool,
+    pub root: usize,
+    pub depth: usize,
+    pub left: usize,
+}
+
+fn no_path() -> Path {
+    Path {
+        ok: false,
+        root: 0,
+        depth: 0,
+        left: 0,
+    }
+}
+
+// Puts indexes into a lent place. Those past 64 are passed over: so long a path names no element. Whether all came.
+fn read_indexes(fd: i32, path: &mut [u32], count: usize) -> bool
+    requires { ⌜ 64 ≤ length (now path) ⌝ }
+{
+    let kept = least(count, 64);
+    let mut i = 0;
+    while i < kept {
+        let word = read_word(fd);
+        if !word.ok {
+            return false;
+        }
+        path[i] = word.value as u32;
+        i += 1;
+    }
+    pass_over(fd, count - kept)
+}
+
+// A path of a call with `m` words left.
+pub fn read_path(fd: i32, path: &mut [u32; 64], m: usize) -> Path {
+    let root = take_word(fd, m);
+    if !root.ok {
+        return no_path();
+    }
+    let count = take_word(fd, root.left);
+    if !count.ok {
+        return no_path();
+    }
+    let depth = count.value;
+    if count.left < depth {
+        complain(b"a call's lengths do not fit its words");
+        return no_path();
+    }
+    if !read_indexes(fd, path, depth) {
+        return no_path();
+    }
+    Path {
+        ok: true,
+        root: root.value,
+        depth,
+        left: count.left - depth,
+    }
+}
+
+// The same where nothing comes after it.
+pub fn read_last_path(fd: i32, path: &mut [u32; 64], m: usize) -> Path {
+    let read = read_path(fd, path, m);
+    if !read.ok || !has_words(read.left, 0) {
+        return no_path();
+    }
+    read
+}
