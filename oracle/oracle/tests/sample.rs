@@ -3,9 +3,10 @@
 use oracle::{
     compare::{replies, Checked, Tally},
     generate::sample,
+    reply::Reply,
     script::{write, Call, MAX_BYTES},
 };
-use std::{fs, path::Path};
+use std::{collections::BTreeMap, fs, path::Path};
 
 fn stored(name: &str) -> Vec<u8> {
     let folder = Path::new(env!("CARGO_MANIFEST_DIR")).join("../../crates/replay");
@@ -13,17 +14,41 @@ fn stored(name: &str) -> Vec<u8> {
 }
 
 #[test]
-fn every_refusal_of_a_sheet_is_met() {
+fn every_refusal_of_a_sheet_or_a_query_is_met() {
     let replies = replies(&sample()).expect("the readings agree");
     let mut tally = Tally::default();
     tally.add(&Checked {
         replies,
         passed_over: 0,
+        queries: 0,
     });
     let met: Vec<u8> = tally.refusals.keys().copied().collect();
-    assert_eq!(met, [1, 2, 3, 4, 11, 12, 13, 14, 15], "{tally}");
+    assert_eq!(met, [1, 2, 3, 4, 5, 11, 12, 13, 14, 15], "{tally}");
     let stores = |it: &&Call| matches!(it, Call::Store { .. });
     assert!(sample().iter().filter(stores).count() > 200);
+}
+
+#[test]
+fn every_query_is_put_and_answered() {
+    let calls = sample();
+    let replies = replies(&calls).expect("the readings agree");
+    let queries = calls.iter().zip(&replies).filter(|it| it.0.is_query());
+    let mut met = BTreeMap::<u32, [bool; 3]>::new();
+    for (call, reply) in queries {
+        let words = write(std::slice::from_ref(call));
+        let op = u32::from_le_bytes([words[0], words[1], words[2], words[3]]);
+        let kind = match reply {
+            Reply::Refused(_) => 0,
+            Reply::None => 1,
+            _ => 2,
+        };
+        met.entry(op).or_default()[kind] = true;
+    }
+    // what a path names, a covering element and sameness are never none
+    let never_none = |op: u32| [20, 36, 37].contains(&op);
+    for op in 20..=38 {
+        assert_eq!(met.get(&op), Some(&[true, !never_none(op), true]), "{op}");
+    }
 }
 
 #[test]

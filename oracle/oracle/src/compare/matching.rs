@@ -14,11 +14,11 @@ pub fn check_output(calls: &[Call], output: &str) -> Result<Checked, Difference>
     let mut adapter = Adapter::default();
     let mut lines = output.split_terminator('\n');
     let mut replies = Vec::with_capacity(calls.len());
-    let mut passed_over = 0;
+    let (mut passed_over, mut queries) = (0, 0);
     for (number, call) in calls.iter().enumerate() {
         let expected = reply(&mut adapter, number, call)?;
         match match_reply(&adapter, call, &expected, &mut lines) {
-            Ok(Match::Equal) => {}
+            Ok(Match::Equal) => queries += usize::from(call.is_query()),
             Ok(Match::NotOffered) => passed_over += 1,
             Err(got) => return Err(difference(number, call, &expected, got)),
         }
@@ -37,6 +37,7 @@ pub fn check_output(calls: &[Call], output: &str) -> Result<Checked, Difference>
         None => Ok(Checked {
             replies,
             passed_over,
+            queries,
         }),
     }
 }

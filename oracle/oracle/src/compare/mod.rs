@@ -42,6 +42,8 @@ pub struct Checked {
     pub replies: Vec<Reply>,
     /// How many of them a program did not offer.
     pub passed_over: usize,
+    /// How many of the others answer calls 20 to 38.
+    pub queries: usize,
 }
 
 /// Puts a script to both readings: rowan's replies, or the first difference.
@@ -83,6 +85,7 @@ impl Subject {
             Subject::Readings => Ok(replies(calls).map(|replies| Checked {
                 replies,
                 passed_over: 0,
+                queries: calls.iter().filter(|it| it.is_query()).count(),
             })),
             Subject::Program(program) => Ok(check_output(calls, &program.output(calls)?)),
         }

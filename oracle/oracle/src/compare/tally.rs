@@ -10,6 +10,8 @@ pub struct Tally {
     pub calls: usize,
     /// Replies that a program did not offer.
     pub passed_over: usize,
+    /// Replies to calls 20 to 38.
+    pub queries: usize,
     /// Accepted and refused events of runs.
     pub events: usize,
     /// How often each refusal was given.
@@ -21,6 +23,7 @@ impl Tally {
         self.scripts += 1;
         self.calls += checked.replies.len();
         self.passed_over += checked.passed_over;
+        self.queries += checked.queries;
         for reply in &checked.replies {
             if let Some(refusal) = reply.refusal() {
                 *self.refusals.entry(refusal.0).or_default() += 1;
@@ -34,10 +37,11 @@ impl Tally {
 
 impl fmt::Display for Tally {
     fn fmt(&self, f: &mut fmt::Formatter<'_>) -> fmt::Result {
-        let (scripts, calls, events) = (self.scripts, self.calls, self.events);
+        let (scripts, calls, queries) = (self.scripts, self.calls, self.queries);
+        let events = self.events;
         write!(
             f,
-            "{scripts} scripts, {calls} calls, {events} events of sheets; refusals"
+            "{scripts} scripts, {calls} calls, {queries} of them queries compared, {events} events of sheets; refusals"
         )?;
         let mut refusals = self.refusals.iter();
         refusals.try_for_each(|(number, count)| write!(f, " {number}: {count}"))?;

@@ -51,16 +51,7 @@ fn sheet_calls(number: usize, length: usize) -> Vec<Call> {
 /// All queries of the tree of a root, at all paths and some that lead nowhere: all offsets and
 /// ranges and some past the end, all walks with one skip, all slices; and last all edits.
 pub fn all_calls(model: &Model, root: u32) -> Vec<Call> {
-    let mut list = CallList {
-        model,
-        calls: Vec::new(),
-        paths: Vec::new(),
-        past_end: model.length(root).unwrap_or(0) + 1,
-    };
-    list.collect_paths(Path {
-        root,
-        indexes: Vec::new(),
-    });
+    let mut list = CallList::new(model, root);
     for path in list.paths.clone() {
         list.about_path(&path);
         if model
@@ -77,6 +68,16 @@ pub fn all_calls(model: &Model, root: u32) -> Vec<Call> {
     list.calls
 }
 
+/// The same without walks, texts and edits.
+pub fn all_queries(model: &Model, root: u32) -> Vec<Call> {
+    let mut list = CallList::new(model, root);
+    for path in list.paths.clone() {
+        list.about_path(&path);
+    }
+    list.about_records(root);
+    list.calls
+}
+
 struct CallList<'a> {
     model: &'a Model,
     calls: Vec<Call>,
@@ -86,6 +87,20 @@ struct CallList<'a> {
 }
 
 impl CallList<'_> {
+    fn new(model: &Model, root: u32) -> CallList<'_> {
+        let mut list = CallList {
+            model,
+            calls: Vec::new(),
+            paths: Vec::new(),
+            past_end: model.length(root).unwrap_or(0) + 1,
+        };
+        list.collect_paths(Path {
+            root,
+            indexes: Vec::new(),
+        });
+        list
+    }
+
     fn collect_paths(&mut self, path: Path) {
         let number = self.model.number_at(&path);
         let children = number.and_then(|it| self.model.children(it));

@@ -10,7 +10,7 @@ mod sample;
 mod script;
 mod sheets;
 
-pub use exhaust::{all_calls, all_sheets};
+pub use exhaust::{all_calls, all_queries, all_sheets};
 pub use random::Random;
 pub use sample::sample;
 pub use script::script;
@@ -20,18 +20,21 @@ pub use script::script;
 pub enum Profile {
     /// Stores and runs of sheets.
     Sheets,
-    /// These, and the calls under Reading and Text.
+    /// These, and the calls that take paths and answer at once, on deep and wide trees more often.
+    Queries,
+    /// Stores and runs, and the calls under Reading and Text.
     Reading,
     /// All calls.
     All,
 }
 
 impl Profile {
-    pub const NAMES: &'static str = "sheets, reading or all";
+    pub const NAMES: &'static str = "sheets, queries, reading or all";
 
     pub fn of_name(name: &str) -> Option<Profile> {
         match name {
             "sheets" => Some(Profile::Sheets),
+            "queries" => Some(Profile::Queries),
             "reading" => Some(Profile::Reading),
             "all" => Some(Profile::All),
             _ => None,

@@ -1,5 +1,7 @@
-//! The stored sample: runs of sheets at and past every limit, all sheets of few events, and random
-//! ones, each on a store of its own.
+//! The stored sample: runs of sheets at and past every limit, all sheets of few events, queries of
+//! chosen trees, and random calls, each on a store of its own.
+
+mod queries;
 
 use super::{
     collisions::{ZERO_NODES, ZERO_TOKENS},
@@ -44,6 +46,7 @@ pub fn sample() -> Vec<Call> {
         sample.random(seed);
         sample.ask();
     }
+    queries::queries(&mut sample);
     sample.calls
 }
 

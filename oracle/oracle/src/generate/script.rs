@@ -1,7 +1,7 @@
 //! Random scripts. A model runs beside the writing, so that most calls are put to something.
 
 use super::{
-    sheets::{random_sheet, varied, Files},
+    sheets::{deep_or_wide_sheet, random_sheet, varied, Files},
     Profile, Random,
 };
 use crate::{
@@ -54,8 +54,21 @@ impl Writer {
         if first < 2 {
             return self.store();
         }
+        if profile == Profile::Queries && (is_empty || first < 15) {
+            return match self.random.chance(40) {
+                true => self.run_deep_or_wide(),
+                false => self.run(),
+            };
+        }
         if is_empty || profile == Profile::Sheets || first < 25 {
             return self.run();
+        }
+        if profile == Profile::Queries {
+            return match self.random.below(5) {
+                0 | 1 => self.steps(),
+                2 | 3 => self.offsets(),
+                _ => self.identities(),
+            };
         }
         if profile == Profile::All && first < 50 {
             return match self.random.chance(4) {
@@ -93,6 +106,12 @@ impl Writer {
             places,
             bytes,
         });
+    }
+
+    fn run_deep_or_wide(&mut self) {
+        let (sheet, text) = deep_or_wide_sheet(&mut self.random);
+        let each = self.random.chance(20);
+        self.put(Call::Run { each, sheet, text });
     }
 
     /// A new sheet, one that was run before, or one like it.

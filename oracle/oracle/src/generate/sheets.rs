@@ -30,6 +30,16 @@ pub fn random_sheet(random: &mut Random) -> Files {
     }
 }
 
+/// A tree whose queries go far down or along.
+pub fn deep_or_wide_sheet(random: &mut Random) -> Files {
+    let writer = match random.below(6) {
+        0 => broad(random),
+        1 => chain(random),
+        _ => comb(random),
+    };
+    writer.files()
+}
+
 /// A kind: mostly one of few, for sharing; 0 often, for its childless node has hash 0.
 fn kind(random: &mut Random) -> u16 {
     match random.below(20) {
@@ -157,6 +167,46 @@ fn chain(random: &mut Random) -> SheetWriter {
         writer = writer.finish();
     }
     writer
+}
+
+/// Nodes in one another with tokens, mostly few, and childless nodes on both sides.
+fn comb(random: &mut Random) -> SheetWriter {
+    let depth = *random.pick(&[3, 8, 20, 62, 63, 64]);
+    let beside = *random.pick(&[5, 30, 70]);
+    let mut writer = SheetWriter::default();
+    for open in 1..=depth {
+        writer = writer.start(kind(random));
+        writer = teeth(random, writer, beside, open);
+    }
+    for open in (1..=depth).rev() {
+        writer = teeth(random, writer, beside, open).finish();
+    }
+    writer
+}
+
+fn teeth(random: &mut Random, mut writer: SheetWriter, chance: usize, open: usize) -> SheetWriter {
+    while random.chance(chance) {
+        // a node more could not be opened in the 64th
+        writer = match random.chance(15) && open < 64 {
+            true => writer.start(kind(random)).finish(),
+            false => token(random, writer),
+        };
+    }
+    writer
+}
+
+/// One node over about 4,000 children, some of them nodes.
+fn broad(random: &mut Random) -> SheetWriter {
+    let mut writer = SheetWriter::default().start(kind(random));
+    while writer.events.len() < 4_090 {
+        let node = kind(random);
+        writer = match random.below(100) {
+            0 => writer.start(node).finish(),
+            1 => token(random, writer.start(node)).finish(),
+            _ => token(random, writer),
+        };
+    }
+    writer.finish()
 }
 
 /// One subtree again and again, so that much is shared.

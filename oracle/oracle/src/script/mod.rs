@@ -70,6 +70,21 @@ impl Step {
     pub const FIRST_OP: u32 = 20;
 }
 
+impl Call {
+    /// Whether it is one of calls 20 to 38.
+    pub fn is_query(&self) -> bool {
+        matches!(
+            self,
+            Call::Step { .. }
+                | Call::TokenAtOffset { .. }
+                | Call::ChildOrTokenAtRange { .. }
+                | Call::CoveringElement { .. }
+                | Call::SameElement { .. }
+                | Call::WhereIs { .. }
+        )
+    }
+}
+
 #[derive(Debug, Clone, PartialEq, Eq)]
 #[rustfmt::skip]
 pub enum Call {
