@@ -1,7 +1,7 @@
 // Events over a builder's state: what each does to the store and to the builder's places.
 
 ghost use mathlib.Core.Path.{_≡_};
-ghost use Prim.Native.Nat.{ℕ, _<_};
+ghost use Prim.Native.Nat.{_<_};
 ghost use Rattle.definitions.specs.Builder.{opens, innermost, startNode, checkpoint, startNodeAt, finishNode};
 ghost use Rattle.utility_types.specs.Numbers.{madeNumber};
 ghost use Rattle.green.specs.Store.{here, entered, lent};

@@ -1,9 +1,8 @@
 -- The lowest branching node of a path: the parent, and where the next and the previous element outside the path's end hang. Assumes nothing.
-use Prim.Native.Nat.{ℕ, zero, suc, _+_, _≤_, _<_}
+use Prim.Native.Nat.{ℕ, zero, suc, _+_, _<_}
 use native.Mathlib.Omega.{arith}
-use native.Mathlib.Numerals.{add-one}
 use mathlib.Core.Path.{_≡_, refl, sym, ap, subst, _∙_}
-use mathlib.Core.List.{List, [], _∷_, dropLast, getLast?}
+use mathlib.Core.List.{List, [], _∷_, dropLast}
 use mathlib.Core.Bool.{Bool, true, false, cond}
 use mathlib.Core.Option.{Option, none, some, bind, orElse}
 use lib.Dec.{ltb}

@@ -2,13 +2,13 @@
 use Prim.Native.Nat.{ℕ, zero, suc, _+_, _≤_, _<_}
 use native.Mathlib.Omega.{arith}
 use native.Mathlib.Numerals.{add-one}
-use mathlib.Core.Path.{_≡_, refl, sym, ap, _∙_}
+use mathlib.Core.Path.{_≡_, refl, _∙_}
 use mathlib.Core.List.{List, [], _∷_, _++_}
 use mathlib.Core.Option.{Option, none, some}
 use lib.ListN.{length, getElem?, take, drop, set, length-set}
 use lib.Seq.{slice, slice-cons, getD-set-same, take-suc-set, take-set-lt, drop-set-lt}
-use Rattle.definitions.specs.Prelude.{Result, ok, option}
-use Rattle.definitions.specs.Element.{Element, children, Shown, shown}
+use Rattle.definitions.specs.Prelude.{Result, option}
+use Rattle.definitions.specs.Element.{Element, children, shown}
 use Rattle.definitions.specs.Query as query
 use Rattle.definitions.specs.Query.{maybe}
 use Rattle.green.specs.Store.{Store, entries}
@@ -16,9 +16,9 @@ use Rattle.utility_types.specs.Elements.{shownAt}
 use Rattle.utility_types.specs.declared.SyntaxElement.{SyntaxElement}
 use Rattle.cursor.specs.declared.position.Cursor.{Cursor}
 use Rattle.cursor.specs.declared.position.Answer.{Answer}
-use Rattle.cursor.specs.declared.position.Answer.the-variants.{None, Refused}
+use Rattle.cursor.specs.declared.position.Answer.the-variants.{None}
 use Rattle.cursor.specs.declared.position.Answer.the-variants as answer
-use Rattle.cursor.specs.Position.{at, Placed, Inner, childCount, ChildAt}
+use Rattle.cursor.specs.Position.{at, Inner, childCount, ChildAt}
 use Rattle.cursor.specs.Answers.{says, Tells}
 use Rattle.cursor.proofs.Positions.{children-count}
 

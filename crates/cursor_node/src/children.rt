@@ -1,6 +1,6 @@
 // A node's first and last child, with tokens or nodes only.
 
-ghost use Prim.Native.Nat.{ℕ, _≤_};
+ghost use Prim.Native.Nat.{_≤_};
 ghost use mathlib.Core.Bool.{true, false};
 ghost use lib.ListN.{length, take};
 ghost use Rattle.definitions.specs.Element.{children as childrenIn};

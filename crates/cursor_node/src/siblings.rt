@@ -1,8 +1,8 @@
 // An element's parent, and its siblings, with tokens or nodes only.
 
 ghost use mathlib.Core.Path.{_≡_};
-ghost use mathlib.Core.Bool.{Bool, true, false};
-ghost use Prim.Native.Nat.{ℕ, _≤_};
+ghost use mathlib.Core.Bool.{true, false};
+ghost use Prim.Native.Nat.{_≤_};
 ghost use lib.ListN.{length};
 ghost use Rattle.definitions.specs.Query.{Question};
 ghost use Rattle.green.specs.Store.{here, entered, entries};

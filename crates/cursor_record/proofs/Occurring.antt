@@ -9,17 +9,17 @@ use lib.ListN.{length, getD, getElem?, take, drop, set}
 use lib.Seq.{slice, slice-empty, take-set-le, drop-set-lt, take-take}
 use lib.Dec.{ltb}
 use borrow.Author.Tests.{lt-ltb, le-ltb, ltb-true, ltb-false}
-use Rattle.definitions.specs.Tree.{Tree, token, node, nil, cons, isNode, childrenOf}
+use Rattle.definitions.specs.Tree.{Tree, token, node, isNode, childrenOf}
 use Rattle.definitions.specs.Entry.{Entry, entryAt, treeAt, treesAt, numberAt}
 use Rattle.definitions.specs.Refusal.{isAbsent, isNoNode}
-use Rattle.definitions.specs.Identity.{WhereIs, unnamed, somewhere, nowhere}
+use Rattle.definitions.specs.Identity.{unnamed, somewhere, nowhere}
 use Rattle.definitions.proofs.Laws.{false≢true}
 use Rattle.definitions.proofs.Limits.{absent, present}
 use Rattle.green.specs.Store.{Store, entries}
-use Rattle.green.specs.Valid.{AllBelow, Valid, Known}
+use Rattle.green.specs.Valid.{AllBelow, Valid}
 use Rattle.green.proofs.Known.{count-records}
 use Rattle.cursor.specs.declared.position.Cursor.{Cursor}
-use Rattle.cursor.specs.Position.{Placed, Inner, childCount, ChildAt}
+use Rattle.cursor.specs.Position.{Placed, childCount, ChildAt}
 use Rattle.cursor.proofs.Telling.{slice-set}
 use Rattle.cursor.proofs.Paths.{some-at, or-true, and-false}
 use Rattle.cursor.proofs.Branching.{none≢some, some-inj}

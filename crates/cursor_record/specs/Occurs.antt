@@ -8,7 +8,6 @@ use lib.Seq.{slice}
 use Rattle.definitions.specs.Prelude.{Result, ok, refused}
 use Rattle.definitions.specs.Entry.{Entry, numberAt}
 use Rattle.definitions.specs.Identity.{WhereIs}
-use Rattle.green.specs.Store.{Store, entries}
 use Rattle.utility_types.specs.Numbers.{refusalNumber}
 use Rattle.cursor.specs.declared.position.Cursor.{Cursor}
 use Rattle.cursor_record.specs.declared.whereabouts.Occurrence.{Occurrence}

@@ -1,13 +1,13 @@
 -- The first, last, next and previous token as they are asked for. Assumes nothing.
-use Prim.Native.Nat.{ℕ, zero, suc, _+_, _-_, _≤_, _<_}
+use Prim.Native.Nat.{ℕ, zero, suc, _+_, _-_, _<_}
 use native.Mathlib.Omega.{arith}
 use mathlib.Core.Path.{_≡_, refl, sym, ap, subst, _∙_}
-use mathlib.Core.List.{List, [], _∷_, _++_}
-use mathlib.Core.Bool.{Bool, true, false}
+use mathlib.Core.List.{List}
+use mathlib.Core.Bool.{true, false}
 use mathlib.Core.Option.{Option, none, some, bind}
 use borrow.Author.Tests.{ltb-true}
 use lib.ListN.{getD, getElem?, take}
-use Rattle.definitions.specs.Prelude.{Result, refused, option}
+use Rattle.definitions.specs.Prelude.{Result, refused}
 use Rattle.definitions.specs.Tree.{Tree, isNode}
 use Rattle.definitions.specs.Entry.{Entry, treeAt}
 use Rattle.definitions.specs.Element.{Element, root, children, shown}
@@ -22,20 +22,19 @@ use Rattle.cursor.specs.declared.position.Cursor.{Cursor}
 use Rattle.cursor.specs.declared.position.Answer.the-variants as answer
 use Rattle.cursor.specs.declared.path.Side.{Side}
 use Rattle.cursor.specs.declared.path.Side.the-variants as side
-use Rattle.cursor.specs.declared.path.Parent.{Parent}
 use Rattle.cursor.specs.declared.path.Parent.the-variants.{Of, NoParent}
 use Rattle.cursor.specs.declared.path.Place.{Place}
 use Rattle.cursor.specs.declared.path.Located.{Located}
 use Rattle.cursor.specs.declared.path.Located.the-variants.{At}
 use Rattle.cursor.specs.Position.{at, Placed, Inner, childCount, Reached}
-use Rattle.cursor.specs.Path.{hasBeside, Branch, branch, branchOf, Above, Leads}
+use Rattle.cursor.specs.Path.{hasBeside, branch, branchOf, Above, Leads}
 use Rattle.cursor.specs.Answers.{Tells, asked}
 use Rattle.cursor.proofs.Paths.{above-level}
 use Rattle.cursor.proofs.Telling.{none-told, element-told}
 use Rattle.cursor.proofs.Reaching.{path-joined}
 use Rattle.cursor.proofs.Branching.{next, prev, following-branch, preceding-branch}
 use Rattle.cursor.proofs.Asking.{stood, asked-of, leads-along}
-use Rattle.cursor_token.specs.Edge.{edgeToken, edgeQuestion, adjacentQuestion, edgeAt, Written, EdgeOf, EdgeBelow}
+use Rattle.cursor_token.specs.Edge.{edgeToken, edgeQuestion, adjacentQuestion, edgeAt, Written}
 use Rattle.cursor_token.specs.Adjacent.{sideOf, besideIndex}
 use Rattle.cursor_token.specs.declared.edge.Edge.{Edge}
 use Rattle.cursor_token.specs.declared.edge.Edge.the-variants.{Token, Nothing}

@@ -2,10 +2,10 @@
 use Prim.Native.Nat.{ℕ}
 use mathlib.Core.Path.{_≡_, refl}
 use mathlib.Core.List.{List, [], _∷_, _++_, map}
-use mathlib.Core.Bool.{Bool, true, false}
-use mathlib.Core.Option.{Option, none, some}
+use mathlib.Core.Bool.{true, false}
+use mathlib.Core.Option.{none, some}
 use mathlib.Core.Option as option
-use lib.ListN.{length, replicate}
+use lib.ListN.{length}
 use Rattle.definitions.specs.Prelude.{Result, ok, refused, andThen, all, any, filter, find, findLast}
 use Rattle.definitions.specs.Prelude as prelude
 use Rattle.definitions.specs.Tree.{Tree, token, node, nil, cons, kind, isNode, childrenOf, count, text, textLen, size, height, sameNumbers, same}
@@ -13,23 +13,23 @@ use Rattle.definitions.specs.Hash.{rotateLeft5, addWord, addWords, token
 use Rattle.definitions.specs.Entry.{Entry, treeAt, treesAt, numberAt, childPlaces, ownBytes, textBytes}
 use Rattle.definitions.specs.Sheet.{u32At, eventCount, textLength, wordAt, operandAt, codeOf, kindOf}
 use Rattle.definitions.specs.Refusal.{isMalformed, isNoRegister, isNotZero, isAcceptable, isUnreadable, isLeftOver, isAbsent, isNoNode, isOutside, isRangeOutside, isRangeBefore, isOtherKind, isUnfit, isUnfinished, isTooDeep, isTooMany, exceedsLimits, isTooLarge, exceedsRoom, isOverfull}
-use Rattle.definitions.specs.NodeCache.{Made, push, matches, findFrom, reuse, share}
+use Rattle.definitions.specs.NodeCache.{push, matches, findFrom, reuse, share}
 use Rattle.definitions.specs.Builder.{Accepted}
 use Rattle.definitions.specs.Builder as builder
 use Rattle.definitions.specs.Run.{End, root, refusedAt, taken, finished, endsAt, follows, runFrom, run}
 use Rattle.definitions.specs.Run as sheetRun
 use Rattle.definitions.specs.Edit.{remade, replaceChild, spliceChildren, insertChild, removeChild, rebuilt, replaceWith}
-use Rattle.definitions.specs.Element.{Element, Shown, shown, elements, children, along, elementAt}
+use Rattle.definitions.specs.Element.{Shown, elements, children, along, elementAt}
 use Rattle.definitions.specs.Cursor.{offered, parent, firstChild, lastChild, indexOf, nextSibling, prevSibling, lastIn, lastToken, preceding, prevToken, tokensIn, tokens, childAtRange}
 use Rattle.definitions.specs.Cursor as cursor
 use Rattle.definitions.specs.Identity.{occurrence, sameElement, WhereIs, somewhere}
 use Rattle.definitions.specs.Preorder.{Walk, WalkEvent, begin, entered, left, atComing, gives, next, skips, skipSubtree}
 use Rattle.definitions.specs.Preorder as preorder
-use Rattle.definitions.specs.SyntaxText.{SyntaxText, textOf, len, slice, part, bytes, meets, chunk, chunks, Chunks, nextChunk, contains, charAt, equal}
+use Rattle.definitions.specs.SyntaxText.{SyntaxText, textOf, len, slice, part, bytes, meets, chunk, chunks, nextChunk, contains, charAt, equal}
 use Rattle.definitions.specs.SyntaxText as syntaxText
-use Rattle.definitions.specs.Query.{Answer, Query, at, of, maybe, maybeNumber, ofNode, ofSibling, ofToken, ask, askText, answer}
+use Rattle.definitions.specs.Query.{at, of, maybe, maybeNumber, ofNode, ofSibling, ofToken, ask, askText, answer}
 use Rattle.definitions.specs.Query as query
-use Rattle.definitions.proofs.Samples.{Case, All, done, _and_, Event, event, tokenOf, start, finish, checkpoint, startAt, sheetOf, enough, runOn, yields, bs, blank, twelve, treeT, eventsT, textT, entriesT}
+use Rattle.definitions.proofs.Samples.{Case, All, done, _and_, Event, event, tokenOf, start, finish, checkpoint, startAt, sheetOf, enough, runOn, yields, bs, blank, treeT, entriesT}
 
 -- the hashes of T's "BS" and of T; two nodes of one hash that are spelled differently, 1 over "47EF" "tgkx" and 1 over "omao" "ijZq", are two records
 abbrev twoNodes : List Event

@@ -2,7 +2,6 @@
 use Prim.Native.Nat.{ℕ}
 use mathlib.Core.List.{List, dropLast}
 use mathlib.Core.Bool.{Bool, cond}
-use mathlib.Core.Option.{Option}
 use lib.ListN.{length}
 use lib.Dec.{eqb}
 use Rattle.definitions.specs.Prelude.{Result, ok, refused, option}

@@ -1,7 +1,7 @@
 -- The run of a sheet: its events in order, from nothing open, nothing waiting and no register set, then `finish`; the first that is refused ends it.
 use Prim.Native.Nat.{ℕ, zero, suc}
 use mathlib.Core.List.{List, [], _∷_}
-use mathlib.Core.Bool.{Bool, cond, _||_}
+use mathlib.Core.Bool.{cond, _||_}
 use lib.ListN.{take, drop}
 use lib.Dec.{eqb}
 use Rattle.definitions.specs.Prelude.{Result, ok, refused}

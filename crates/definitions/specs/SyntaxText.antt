@@ -3,7 +3,7 @@ use Prim.Native.Nat.{ℕ, suc, _+_, _-_, max, min}
 use mathlib.Core.List.{List, [], _∷_, map}
 use mathlib.Core.Bool.{Bool, cond}
 use mathlib.Core.Option.{Option, none, some}
-use lib.ListN.{length, take, drop, getElem?}
+use lib.ListN.{take, drop, getElem?}
 use lib.Dec.{leb, eqb}
 use Rattle.definitions.specs.Prelude.{Result, ok, refused, option, any, filter}
 use Rattle.definitions.specs.Tree.{Tree, isNode, text, sameNumbers}

@@ -7,7 +7,6 @@ use mathlib.Core.Bool.{Bool, true, false, cond, not}
 use lib.Dec.{ltb}
 use borrow.Author.Tests.{ltb-true, lt-ltb, le-ltb}
 use lib.ListN.{length, getD, take, drop}
-use lib.Seq.{slice}
 use Rattle.definitions.specs.Prelude.{Result, ok, refused}
 use Rattle.definitions.specs.Tree.{Tree, token, node, kind, isNode, text, childrenOf, count, textLen, size, height}
 use Rattle.definitions.specs.Hash.{hash}
@@ -18,10 +17,10 @@ use Rattle.utility_types.specs.Numbers.{refusalNumber}
 use Rattle.utility_types.specs.declared.Refusal.{Refusal}
 use Rattle.utility_types.specs.declared.NodeOrToken.{NodeOrToken}
 use Rattle.utility_types.specs.declared.NodeOrToken.the-variants.{Node, Token}
-use Rattle.green.specs.Layout.{ownCount, firstOf, offsetOf, ownText}
+use Rattle.green.specs.Layout.{ownCount, firstOf, ownText}
 use Rattle.green.specs.Store.{Store, entries}
 use Rattle.green.specs.Valid.{AllBelow, Valid, Known}
-use Rattle.green.specs.Answers.{Named, lookedUp, elementOf, Kept, keptOf, Place, placeOf, childOf}
+use Rattle.green.specs.Answers.{Named, lookedUp, elementOf, keptOf, Place, placeOf, childOf}
 use Rattle.green.specs.declared.element.Lookup.{Lookup}
 use Rattle.green.specs.declared.element.Lookup.the-variants.{Element, Refused}
 use Rattle.green.proofs.Lists.{slice-at, part-slice}

@@ -1,8 +1,8 @@
 -- What is known of a number that names an entry: where its words lie, and what each says. Assumes nothing.
-use Prim.Native.Nat.{ℕ, suc, _+_, _*_, _/_, _%_, _^_, _≤_, _<_}
+use Prim.Native.Nat.{ℕ, suc, _+_, _*_, _/_, _%_, _≤_, _<_}
 use native.Mathlib.Omega.{arith}
 use mathlib.Core.Path.{_≡_, refl, sym, ap, _∙_}
-use mathlib.Core.List.{List, [], _∷_, _++_}
+use mathlib.Core.List.{_∷_, _++_}
 use mathlib.Core.Bool.{Bool, true, false, cond}
 use lib.ListN.{length, getD, take, drop}
 use lib.Seq.{split-at}
@@ -11,7 +11,7 @@ use lib.Dec.{ltb}
 use Rattle.definitions.specs.Entry.{Entry, absent, entryAt, treeAt, childPlaces, textBytes, ownBytes}
 use Rattle.definitions.proofs.Limits.{Room, entries-room}
 use Rattle.green.specs.Layout.{tag, wordsOf}
-use Rattle.green.specs.Store.{Store, lent, wordsAt, entries}
+use Rattle.green.specs.Store.{Store, lent, entries}
 use Rattle.green.specs.Valid.{Valid, Known}
 use Rattle.green.proofs.Lists.{slice-at}
 use Rattle.green.proofs.Written.{childPlaces-append, textBytes-append}

@@ -1,17 +1,17 @@
 -- What the words at a record's places say of its entry; and that a store spells the entries that it holds. Assumes nothing.
 use Prim.Native.Nat.{ℕ, zero, suc, _+_, _*_, _/_, _%_, _^_, _≤_, _<_}
 use native.Mathlib.Omega.{arith}
-use mathlib.Core.Path.{_≡_, refl, sym, ap, _∙_, subst}
+use mathlib.Core.Path.{_≡_, refl, sym, ap, _∙_}
 use mathlib.Core.List.{List, [], _∷_, _++_, flatMap}
 use mathlib.Core.Bool.{Bool, true, false}
 use lib.ListN.{length, take, drop, getD, take-append-drop}
 use lib.Seq.{slice, split-at, length-take-le, take-suc, take-length}
-use Rattle.definitions.specs.Tree.{Tree, token, node, Forest, nil, cons, kind, isNode, childrenOf, textLen}
+use Rattle.definitions.specs.Tree.{Tree, token, node, kind, isNode, childrenOf}
 use Rattle.definitions.specs.Entry.{Entry, absent, entryAt, treeAt, treesAt, childPlaces, textBytes, ownBytes}
-use Rattle.definitions.proofs.Limits.{Room, entries-room}
+use Rattle.definitions.proofs.Limits.{entries-room}
 use Rattle.green.specs.Layout.{tag, ownCount, ownFirst, recordWords, wordsOf, childWords, ownText, allRecords, allChildren, allText}
-use Rattle.green.specs.Store.{Store, lent, wordsAt, named, numbers, tagged, entryIn, entriesTo, entries}
-use Rattle.green.specs.Valid.{AllBelow, Formed, Holds}
+use Rattle.green.specs.Store.{Store, lent, wordsAt, numbers, tagged, entryIn, entriesTo, entries}
+use Rattle.green.specs.Valid.{Holds}
 use Rattle.green.proofs.Lists.{slice-mid}
 use Rattle.green.proofs.Written.{allRecords-append, allChildren-append, allText-append, allRecords-length, allChildren-length, allText-length, ownText-length, childWords-length, childWords-numbers, treesAt-append}
 

@@ -1,13 +1,12 @@
 -- What entries are written as: lengths, and more entries at the end. Assumes nothing.
 use Prim.Native.Nat.{ℕ, zero, suc, _+_, _*_, _%_, _^_, _≤_, _<_}
 use native.Mathlib.Omega.{arith}
-use mathlib.Core.Path.{_≡_, refl, sym, ap, _∙_}
+use mathlib.Core.Path.{_≡_, refl, ap, _∙_}
 use mathlib.Core.List.{List, [], _∷_, _++_, append-assoc, flatMap}
-use mathlib.Core.Bool.{Bool, true, false}
-use lib.ListN.{length, take, drop, getD, length-append, List·getD-append}
+use lib.ListN.{length, getD, length-append, List·getD-append}
 use Rattle.definitions.specs.Tree.{Tree, token, node, Forest, nil, cons, childrenOf, textLen}
-use Rattle.definitions.specs.Entry.{Entry, absent, entryAt, treeAt, treesAt, childPlaces, textBytes, ownBytes}
-use Rattle.green.specs.Layout.{ownFirst, recordWords, childWords, offsetOf, ownText, allRecords, allChildren, allText}
+use Rattle.definitions.specs.Entry.{Entry, absent, treesAt, childPlaces, textBytes, ownBytes}
+use Rattle.green.specs.Layout.{childWords, offsetOf, ownText, allRecords, allChildren, allText}
 use Rattle.green.specs.Store.{numbers}
 use Rattle.green.specs.Valid.{AllBelow}
 use Rattle.green.proofs.Lists.{flatMap-append}

@@ -1,7 +1,7 @@
 -- What the words of a store are, entry by entry: what a list of entries is written as.
 use Prim.Native.Nat.{ℕ, zero, suc, _+_, _*_, _^_}
 use mathlib.Core.List.{List, [], _∷_, _++_, flatMap}
-use mathlib.Core.Bool.{Bool, true, false, cond}
+use mathlib.Core.Bool.{cond}
 use lib.ListN.{length, take}
 use Rattle.definitions.specs.Tree.{Tree, token, node, Forest, nil, cons, kind, isNode, childrenOf, textLen, size, height}
 use Rattle.definitions.specs.Hash.{hash}

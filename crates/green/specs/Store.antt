@@ -1,12 +1,11 @@
 -- The store: four lent places, and the list of entries that they spell.
 use Prim.Native.Nat.{ℕ, zero, suc, _+_, _*_, _/_, _%_, _^_}
 use mathlib.Core.List.{List, [], _∷_, _++_, map}
-use mathlib.Core.Bool.{Bool, true, false}
+use mathlib.Core.Bool.{true, false}
 use lib.ListN.{length, getD}
 use lib.Seq.{slice}
 use denote.Ref.{RefT, now}
 use denote.Triple.Both.{Both}
-use Rattle.definitions.specs.Tree.{token}
 use Rattle.definitions.specs.Entry.{Entry, tokenEntry, nodeEntry, Lent}
 
 -- records of 8 words, child places, text bytes, and how many of each are in use

@@ -2,9 +2,9 @@
 use Prim.Native.Nat.{ℕ, _*_, _^_, _<_}
 use mathlib.Core.Path.{_≡_}
 use mathlib.Core.List.{List, [], _∷_}
-use mathlib.Core.Bool.{Bool, true, false}
+use mathlib.Core.Bool.{true, false}
 use lib.ListN.{length, take}
-use Rattle.definitions.specs.Tree.{Tree, kind, isNode, childrenOf}
+use Rattle.definitions.specs.Tree.{kind, isNode, childrenOf}
 use Rattle.definitions.specs.Hash.{sharable}
 use Rattle.definitions.specs.Entry.{Entry, entryAt, treeAt, treesAt, childPlaces, textBytes}
 use Rattle.definitions.specs.Refusal.{isTooLarge, isOverfull}

@@ -2,7 +2,7 @@
 
 ghost use mathlib.Core.Path.{_≡_};
 ghost use Rattle.green.specs.Store.{here, entered, entries};
-ghost use Rattle.green.specs.Valid.{Valid, Known};
+ghost use Rattle.green.specs.Valid.{Valid};
 ghost use Rattle.green.specs.Answers.{lookedUp, elementOf, summarized, keptOf};
 use crate::record;
 use utility_types::NodeOrToken;

@@ -2,7 +2,7 @@
 // Each is read by a function of its own, so that no other module knows its place.
 
 ghost use mathlib.Core.Path.{_≡_};
-ghost use Prim.Native.Nat.{ℕ, _<_};
+ghost use Prim.Native.Nat.{_<_};
 ghost use lib.ListN.{getD};
 ghost use Rattle.definitions.specs.Tree.{kind, isNode, textLen, size, height};
 ghost use Rattle.definitions.specs.Hash.{hash};

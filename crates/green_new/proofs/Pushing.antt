@@ -1,19 +1,17 @@
 -- What `push_token` and `push_node` write spells one entry more. Assumes nothing.
-use Prim.Native.Nat.{ℕ, suc, _+_, _*_, _/_, _≤_, _<_}
+use Prim.Native.Nat.{ℕ, _+_, _*_, _≤_, _<_}
 use native.Mathlib.Omega.{arith}
 use native.Mathlib.Decide.{decLt}
-use mathlib.Core.Path.{_≡_, refl, sym, ap, _∙_, subst}
-use mathlib.Core.List.{List, [], _∷_, _++_, append-nil, append-assoc, flatMap}
-use mathlib.Core.Bool.{Bool, true, false}
+use mathlib.Core.Path.{_≡_, refl, sym, ap, _∙_}
+use mathlib.Core.List.{List, [], _∷_, _++_, append-nil, flatMap}
 use lib.ListN.{length, getD, take, drop, length-append}
 use lib.Seq.{sets, sets-eq, paste, take-paste, drop-paste, length-paste, take-length}
-use Rattle.definitions.specs.Tree.{Tree, childrenOf}
-use Rattle.definitions.specs.Entry.{Entry, entryAt, treesAt, childPlaces, textBytes, ownBytes, Lent}
-use Rattle.definitions.proofs.Limits.{Room, entries-room}
+use Rattle.definitions.specs.Tree.{childrenOf}
+use Rattle.definitions.specs.Entry.{Entry, entryAt, childPlaces, textBytes, ownBytes}
 use Rattle.green.specs.Layout.{ownFirst, recordWords, childWords, ownText, allRecords, allChildren, allText}
 use Rattle.green.specs.Store.{Store, lent, entries}
 use Rattle.green.specs.Valid.{AllBelow, Formed, Holds, Valid}
-use Rattle.green_new.specs.Ready.{Untouched, Ready, Pushed}
+use Rattle.green_new.specs.Ready.{Ready, Pushed}
 use Rattle.green.proofs.Written.{childPlaces-append, textBytes-append, allRecords-append, allChildren-append, allText-append, treesAt-append, childWords-length, ownText-length}
 use Rattle.green.proofs.Reading.{denotes}
 use Rattle.green_new.proofs.Sharing.{old, last, shared-push}

@@ -1,18 +1,18 @@
 -- What an event has done: it reused the entry that a search found, or made a new one. Assumes nothing.
 use Prim.Native.Nat.{ℕ}
-use mathlib.Core.Path.{_≡_, refl, sym, ap, _∙_}
-use mathlib.Core.List.{List, [], _∷_}
-use mathlib.Core.Bool.{Bool, true}
-use mathlib.Core.Option.{none, some}
+use mathlib.Core.Path.{_≡_, ap, _∙_}
+use mathlib.Core.List.{[], _∷_}
+use mathlib.Core.Bool.{true}
+use mathlib.Core.Option.{none}
 use lib.ListN.{length}
-use Rattle.definitions.specs.Prelude.{ok, option}
+use Rattle.definitions.specs.Prelude.{option}
 use Rattle.definitions.specs.Hash.{sharable}
 use Rattle.definitions.specs.Entry.{Entry}
 use Rattle.definitions.specs.NodeCache.{findFrom, reuse, push, share}
 use Rattle.utility_types.specs.declared.Made.the-variants.{Number}
 use Rattle.green.specs.Store.{Store, entries, lent}
 use Rattle.green.specs.Valid.{Valid}
-use Rattle.green_new.specs.Done.{numberIn, entriesAfter, Done}
+use Rattle.green_new.specs.Done.{Done}
 use Rattle.green_new.proofs.Making.{done-none}
 use Rattle.node_cache.specs.Search.{found}
 use Rattle.node_cache.specs.declared.search.Search.{Search}

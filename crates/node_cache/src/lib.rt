@@ -1,7 +1,6 @@
 // rowan's green/node_cache.rs: an event's element is found among those that events made, or made.
 // The search is behind two functions of `search`, whose contracts name the first match among the entries.
 
-ghost use mathlib.Core.Path.{_≡_};
 ghost use mathlib.Core.Bool.{true};
 ghost use Rattle.definitions.specs.Entry.{tokenEntry, nodeEntry};
 ghost use Rattle.definitions.specs.NodeCache.{share};

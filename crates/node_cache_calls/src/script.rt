@@ -1,7 +1,7 @@
 // Scripts: calls with a space between each two. `t1abc` is a token of kind 1 and text abc, `n2013` a node of kind 2
 // over the numbers 0, 1 and 3, and `n2` a childless one.
 
-ghost use Prim.Native.Nat.{ℕ, _≤_};
+ghost use Prim.Native.Nat.{_≤_};
 ghost use lib.ListN.{length};
 ghost use Rattle.green.specs.Store.{here};
 ghost use Rattle.green.specs.Valid.{Valid};

@@ -1,20 +1,20 @@
 -- A run that goes on: what is known before event i, and after it. Assumes nothing.
-use Prim.Native.Nat.{ℕ, suc, _+_, _-_, _*_, _/_, _≤_, _<_}
+use Prim.Native.Nat.{ℕ, _+_, _-_, _*_, _≤_, _<_}
 use native.Mathlib.Omega.{arith}
 use mathlib.Core.Path.{_≡_, refl, sym, ap, _∙_}
-use mathlib.Core.List.{List, [], _∷_, _++_, append-assoc, append-nil}
-use mathlib.Core.Bool.{Bool, true, false}
+use mathlib.Core.List.{List, [], _++_, append-assoc, append-nil}
+use mathlib.Core.Bool.{false}
 use mathlib.Core.Option.{Option, none, some}
 use lib.ListN.{length, getD, take, drop, length-append, length-drop}
 use lib.Seq.{drop-drop, take-all}
 use Rattle.definitions.specs.Prelude.{Result, ok, refused}
-use Rattle.definitions.specs.Entry.{Entry, childPlaces, textBytes, Lent}
+use Rattle.definitions.specs.Entry.{Entry, childPlaces, textBytes}
 use Rattle.definitions.specs.Sheet.{u32At, eventCount, textLength, wordAt, operandAt, codeOf, kindOf}
 use Rattle.definitions.specs.Refusal.{isMalformed}
-use Rattle.definitions.specs.Builder.{State, new, Accepted}
+use Rattle.definitions.specs.Builder.{new, Accepted}
 use Rattle.definitions.proofs.Limits.{or-false}
 use borrow.Author.Tests.{eqb-true, ltb-false, not-false}
-use Rattle.definitions.specs.Run.{event, taken, refusedAt, endsAt, Run, run}
+use Rattle.definitions.specs.Run.{event, taken, refusedAt, endsAt, run}
 use Rattle.utility_types.specs.Numbers.{refusalNumber}
 use Rattle.green.specs.Store.{Store, lent, entries}
 use Rattle.green.specs.Valid.{Valid}

@@ -1,18 +1,18 @@
 -- The run of a sheet, event by event: what is left gives the end and the entries. Assumes nothing.
-use Prim.Native.Nat.{ℕ, zero, suc, _+_, _-_, _≤_, _<_}
+use Prim.Native.Nat.{ℕ, suc, _+_, _-_, _≤_, _<_}
 use native.Mathlib.Omega.{arith}
 use native.Mathlib.Numerals.{add-one}
-use mathlib.Core.Path.{_≡_, refl, sym, ap, _∙_}
+use mathlib.Core.Path.{_≡_}
 use mathlib.Core.List.{List, []}
-use mathlib.Core.Bool.{Bool, true, false}
-use lib.ListN.{length, drop}
+use mathlib.Core.Bool.{true, false}
+use lib.ListN.{drop}
 use lib.Seq.{drop-drop}
 use Rattle.definitions.specs.Prelude.{Result, ok, refused}
 use Rattle.definitions.specs.Entry.{Entry, Lent}
 use Rattle.definitions.specs.Sheet.{eventCount, wordAt, operandAt, codeOf, kindOf}
-use Rattle.definitions.specs.Refusal.{isMalformed, isLeftOver}
-use Rattle.definitions.specs.Builder.{State, new, Accepted, finish}
-use Rattle.definitions.specs.Run.{event, taken, End, root, refusedAt, Run, stops, finished, endsAt, follows, runFrom, run}
+use Rattle.definitions.specs.Refusal.{isMalformed}
+use Rattle.definitions.specs.Builder.{State, new, Accepted}
+use Rattle.definitions.specs.Run.{event, taken, refusedAt, Run, endsAt, follows, runFrom, run}
 
 -- event i of a sheet, put to a state
 abbrev pub eventAt : Lent → List ℕ → ℕ → State → List ℕ → Result Accepted

@@ -1,10 +1,10 @@
 -- A run starts anew, whatever the builder's places hold; a malformed sheet changes nothing. Assumes nothing.
-use Prim.Native.Nat.{ℕ, _≤_, _<_}
+use Prim.Native.Nat.{ℕ, _≤_}
 use native.Mathlib.Omega.{arith}
-use mathlib.Core.Path.{_≡_, refl, sym, ap, _∙_}
-use mathlib.Core.List.{List, [], _∷_, map}
+use mathlib.Core.Path.{_≡_, sym, ap, _∙_}
+use mathlib.Core.List.{List}
 use mathlib.Core.Bool.{true}
-use lib.ListN.{length, getD, set, take, replicate, length-set, length-replicate}
+use lib.ListN.{length, getD, set, replicate, length-set, length-replicate}
 use lib.Seq.{getD-set-same, getD-set-other}
 use lib.Dec.{lit≤}
 use Rattle.definitions.specs.Refusal.{isMalformed}
@@ -12,7 +12,7 @@ use Rattle.definitions.specs.Builder.{new}
 use Rattle.definitions.specs.Run.{refusedAt, run}
 use Rattle.green.specs.Store.{Store, lent, entries}
 use Rattle.green.specs.Valid.{AllEvents, Valid}
-use Rattle.builder.specs.Places.{Places, places, opened, waited, parentsTo, register, builderOf, Nested, Standing}
+use Rattle.builder.specs.Places.{Places, places, parentsTo, register, builderOf, Nested, Standing}
 use Rattle.builder.proofs.Steps.{untouched-same}
 use Rattle.sheet_run.specs.declared.Ended.{Ended}
 use Rattle.sheet_run.specs.Ran.{endOf, Roomy, Ran}

@@ -1,7 +1,6 @@
 -- What the run of a sheet has done.
 use Prim.Native.Nat.{ℕ}
 use mathlib.Core.Path.{_≡_}
-use mathlib.Core.List.{List}
 use mathlib.Core.Option.{Option, none, some}
 use lib.ListN.{length}
 use Rattle.definitions.specs.Run.{End, root, refusedAt, Run}

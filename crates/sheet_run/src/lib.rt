@@ -3,7 +3,7 @@
 ghost use mathlib.Core.Path.{_≡_};
 ghost use mathlib.Core.Bool.{false};
 ghost use lib.ListN.{length, replicate};
-ghost use Rattle.definitions.specs.Sheet.{eventCount, codeOf};
+ghost use Rattle.definitions.specs.Sheet.{codeOf};
 ghost use Rattle.definitions.specs.Refusal.{isMalformed};
 ghost use Rattle.definitions.specs.Builder.{new};
 ghost use Rattle.definitions.specs.Run.{taken as takenOf, endsAt, run as runOf};

@@ -1,6 +1,5 @@
 -- `word` meets its contract. Assumes nothing.
 use native.Mathlib.Omega.{arith}
-use Rattle.green.specs.Store.{here}
 use Rattle.green.proofs.Known.{record-bound, field}
 use Rattle.green.proofs.record.word.Statement.{statement}
 use Rattle.green.proofs.record.word.Tie as tie
