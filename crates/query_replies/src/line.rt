@@ -14,7 +14,7 @@ use utility_types::SyntaxElement;
 use utility_types::TokenAtOffset;
 
 // Adds a path of `depth` indexes: their count, and they.
-pub fn add_path(line: &mut [u8], n: usize, path: &[u32], depth: usize) -> usize
+fn add_path(line: &mut [u8], n: usize, path: &[u32], depth: usize) -> usize
     requires { ⌜ n ≤ length (now line) ⌝ }
     ensures { λ r. ⌜ r ≤ length (now (line .exit)) ⌝ }
 {
@@ -59,6 +59,7 @@ pub fn put_line(line: &mut [u8], n: usize)
 }
 
 fn put_element(it: SyntaxElement, path: &[u32; 64]) {
+    // room for 64 indexes of any 32 bits, and what stands before them
     let mut space = [0u8; 800];
     let line: &mut [u8] = &mut space;
     let n = add_element(line, 0, it, path);
