@@ -29,6 +29,6 @@ pub record Tells (l l′ : List ℕ) (a : Result query.Answer) (r : Answer) : Ty
   pub says : says l′ r ≡ a
   pub kept : Kept l l′ r
 
--- what is asked of the element that `depth` indexes name; more than 64 name none
+-- what is asked of the element that `depth` indexes name; more than 64 name none, as no height is over 64 (`too-long` in proofs/Depth)
 unfoldable pub asked : List Entry → ℕ → ℕ → List ℕ → query.Question → Result query.Answer
 asked es root depth l q = cond (ltb 64 depth) (refused 4) (query.answerAt es root (query.at (take depth l) q))
