@@ -6,7 +6,7 @@
 
 use super::{caught, table::Green, Adapter, Fault};
 use crate::{
-    reply::{Counts, Refusal, Run},
+    reply::{Counts, Maker, Refusal, Run},
     sheet::{Event, Sheet},
 };
 use rowan::{Checkpoint, GreenNode, GreenNodeBuilder, NodeCache, NodeOrToken, SyntaxKind};
@@ -53,7 +53,7 @@ impl Adapter {
                 self.admit_in_postorder(&child, yields)?;
             }
         }
-        let number = self.table.admit(tree.clone())?;
+        let number = self.table.admit(tree.clone(), Maker::Event)?;
         self.check_children(number)?;
         yields.push((number, self.table.counts()));
         Ok(())

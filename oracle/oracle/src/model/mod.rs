@@ -92,8 +92,9 @@ impl Model {
                 Reply::flag(cursor(left)?.is_same_element(&cursor(right)?))
             }
             Call::WhereIs { number, root } => query::where_is(&self.store, *number, *root)?,
-            Call::Element { number } => self.store.get(*number)?.described(),
+            Call::Element { number } => self.store.get(*number)?.measured(),
             Call::Mark { number } => Reply::Mark(self.store.get(*number)?.hash),
+            Call::Record { number } => self.store.shown(self.store.get(*number)?),
             _ => unreachable!("not a reading call"),
         })
     }

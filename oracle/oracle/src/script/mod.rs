@@ -115,6 +115,7 @@ pub enum Call {
     TextCharAt { slot: usize, offset: u32 },
     TextEqual { left: usize, right: usize },
     Element { number: u32 },
+    Record { number: u32 },
     Mark { number: u32 },
     /// A call that this reader does not know.
     Unknown { op: u32, words: Vec<u32> },

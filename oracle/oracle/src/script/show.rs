@@ -63,6 +63,7 @@ impl Display for Call {
             Call::WhereIs { number, root } => write!(f, "where_is {number} root {root}"),
             Call::Element { number } => write!(f, "element {number}"),
             Call::Mark { number } => write!(f, "mark {number}"),
+            Call::Record { number } => write!(f, "record {number}"),
             Call::Unknown { op, words } => write!(f, "call number {op} with {words:?}"),
             _ => self.show_slot_call(f),
         }
