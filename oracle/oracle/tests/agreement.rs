@@ -20,7 +20,7 @@ fn random_scripts() {
         let checked = checked.expect("no program is run");
         tally.add(&checked.unwrap_or_else(|it| panic!("seed {seed}: {it}")));
     }
-    assert!(tally.calls > 10_000 && tally.events > 20_000, "{tally}");
+    assert!(tally.calls() > 10_000 && tally.events > 20_000, "{tally}");
     let met: Vec<u8> = tally.refusals.keys().copied().collect();
     assert_eq!(met, ALL_REFUSALS, "{tally}");
 }

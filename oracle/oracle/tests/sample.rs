@@ -1,10 +1,10 @@
 //! The sample that is stored with the program `replay`.
 
 use oracle::{
-    compare::{replies, Checked, Tally},
+    compare::{all_compared, replies, Tally},
     generate::sample,
     reply::Reply,
-    script::{write, Call, MAX_BYTES},
+    script::{write, Call, Group, MAX_BYTES},
 };
 use std::{collections::BTreeMap, fs, path::Path};
 
@@ -17,11 +17,7 @@ fn stored(name: &str) -> Vec<u8> {
 fn every_refusal_of_a_sheet_or_a_query_is_met() {
     let replies = replies(&sample()).expect("the readings agree");
     let mut tally = Tally::default();
-    tally.add(&Checked {
-        replies,
-        passed_over: 0,
-        queries: 0,
-    });
+    tally.add(&all_compared(&sample(), replies));
     let met: Vec<u8> = tally.refusals.keys().copied().collect();
     assert_eq!(met, [1, 2, 3, 4, 5, 11, 12, 13, 14, 15], "{tally}");
     let stores = |it: &&Call| matches!(it, Call::Store { .. });
@@ -32,7 +28,10 @@ fn every_refusal_of_a_sheet_or_a_query_is_met() {
 fn every_query_is_put_and_answered() {
     let calls = sample();
     let replies = replies(&calls).expect("the readings agree");
-    let queries = calls.iter().zip(&replies).filter(|it| it.0.is_query());
+    let queries = calls
+        .iter()
+        .zip(&replies)
+        .filter(|it| it.0.group() == Group::Query);
     let mut met = BTreeMap::<u32, [bool; 3]>::new();
     for (call, reply) in queries {
         let words = write(std::slice::from_ref(call));

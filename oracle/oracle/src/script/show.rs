@@ -1,12 +1,28 @@
 //! Calls in readable form, for reports.
 
-use super::{Call, Path, Step};
+use super::{Call, Group, Path, Step};
 use crate::sheet::Sheet;
 use std::fmt::{self, Display};
 
 impl Display for Path {
     fn fmt(&self, f: &mut fmt::Formatter<'_>) -> fmt::Result {
         write!(f, "root {} path {:?}", self.root, self.indexes)
+    }
+}
+
+impl Group {
+    /// For so many of them.
+    pub fn name(self) -> &'static str {
+        match self {
+            Group::Store => "stores",
+            Group::Run => "runs",
+            Group::Edit => "edits",
+            Group::Query => "queries",
+            Group::Walk => "calls of walks",
+            Group::Text => "calls of texts",
+            Group::Record => "calls of records",
+            Group::Unknown => "unknown calls",
+        }
     }
 }
 
