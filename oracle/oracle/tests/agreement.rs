@@ -3,8 +3,7 @@
 
 use oracle::{
     compare::{replies, Subject, Tally},
-    generate::{all_calls, all_sheets, script, Profile},
-    model::Model,
+    generate::{all_sheets, run_twice, script, sheet_count, tree_calls, Profile, Topic},
     reply::Reply,
     script::{read, write, Call, MAX_BYTES},
 };
@@ -26,22 +25,22 @@ fn random_scripts() {
 }
 
 #[test]
-fn all_sheets_of_three_events_with_all_queries_and_edits() {
+fn all_sheets_of_three_events_with_all_that_a_tree_can_be_asked() {
     let (mut sheets, mut trees) = (0, 0);
-    for mut calls in all_sheets(3) {
-        let mut model = Model::default();
-        let last = calls.iter().map(|it| model.answer(it)).last();
-        let Some(Reply::Run(run)) = last else {
-            panic!("a run is last");
-        };
-        if let Ok(root) = run.outcome {
-            calls.extend(all_calls(&model, root));
-            trees += 1;
-        }
+    for run in all_sheets(3) {
         sheets += 1;
-        replies(&calls).unwrap_or_else(|it| panic!("{it}"));
+        replies(&run_twice(&run)).unwrap_or_else(|it| panic!("{it}"));
+        for topic in Topic::ALL {
+            let Some(parts) = tree_calls(&run, topic) else {
+                break;
+            };
+            trees += usize::from(topic == Topic::Queries);
+            for calls in parts {
+                replies(&calls).unwrap_or_else(|it| panic!("{it}"));
+            }
+        }
     }
-    assert_eq!(sheets, 1 + 8 + 64 + 512);
+    assert_eq!((sheets, sheet_count(3)), (1 + 8 + 64 + 512, sheets));
     // Of two events: start and finish, in two kinds. Of three: a token between them (6), a
     // checkpoint anywhere (6), a start before (4) or after (4); checkpoint, start at it, finish.
     assert_eq!(trees, 2 + 6 + 6 + 4 + 4 + 1);

@@ -157,7 +157,7 @@ fn exhaust_counts_its_sheets() {
     let (status, out, _) = oracle(&["exhaust", "2", "--queries"]);
     assert_eq!(status, Some(0), "{out}");
     assert!(
-        out.starts_with("no difference: 73 sheets, 2 trees queried; "),
+        out.starts_with("no difference: 73 sheets, 2 trees with all queries; "),
         "{out}"
     );
     let folder = Folder::new("exhaust");

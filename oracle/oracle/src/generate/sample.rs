@@ -5,19 +5,18 @@ mod queries;
 
 use super::{
     collisions::{ZERO_NODES, ZERO_TOKENS},
-    exhaust::all_sheets,
+    exhaust::{all_sheets, run_twice},
+    recorder::{Recorder, MOST},
     script::script,
     sheets::Files,
     Profile,
 };
 use crate::{
-    model::Model,
     script::{size, Call},
     sheet::{Event, SheetWriter},
 };
 
-/// The places of a store that may use all that document 01 allows, and of one that is lent more.
-const MOST: [u32; 3] = [8_192, 16_384, 65_536];
+/// More places than a store uses.
 const MORE: [u32; 3] = [70_000; 3];
 
 /// All sheets of up to so many events.
@@ -29,7 +28,7 @@ const SCRIPT_BYTES: usize = 1_200;
 
 /// The calls of the sample.
 pub fn sample() -> Vec<Call> {
-    let mut sample = Sample::default();
+    let mut sample = Recorder::default();
     malformed(&mut sample);
     bad_events(&mut sample);
     bad_text(&mut sample);
@@ -38,8 +37,10 @@ pub fn sample() -> Vec<Call> {
     sharing(&mut sample);
     small_stores(&mut sample);
     full_stores(&mut sample);
-    for calls in all_sheets(SHORT) {
-        sample.calls.extend(calls);
+    for run in all_sheets(SHORT) {
+        run_twice(&run).into_iter().for_each(|call| {
+            sample.put(call);
+        });
     }
     for seed in 1..=SCRIPTS {
         sample.store(MOST);
@@ -50,27 +51,7 @@ pub fn sample() -> Vec<Call> {
     sample.calls
 }
 
-/// The calls so far. A model runs beside them, so that the records that are there can be asked for.
-#[derive(Default)]
-struct Sample {
-    calls: Vec<Call>,
-    model: Model,
-}
-
-impl Sample {
-    fn put(&mut self, call: Call) {
-        self.model.answer(&call);
-        self.calls.push(call);
-    }
-
-    fn store(&mut self, [records, places, bytes]: [u32; 3]) {
-        self.put(Call::Store {
-            records,
-            places,
-            bytes,
-        });
-    }
-
+impl Recorder {
     fn files(&mut self, each: bool, (sheet, text): Files) {
         self.put(Call::Run { each, sheet, text });
     }
@@ -141,7 +122,7 @@ fn tokens(count: usize, kind: impl Fn(usize) -> u16) -> SheetWriter {
 }
 
 /// Refusal 1, and sheets that just pass it. A tree before and after shows that the store is kept.
-fn malformed(sample: &mut Sample) {
+fn malformed(sample: &mut Recorder) {
     let (sheet, text) = tree_t().files();
     let word = |at: usize, value: u32| {
         let mut sheet = sheet.clone();
@@ -173,7 +154,7 @@ fn malformed(sample: &mut Sample) {
 }
 
 /// Refusal 2, also where a higher one would apply, and what just passes it.
-fn bad_events(sample: &mut Sample) {
+fn bad_events(sample: &mut Recorder) {
     let (start, finish) = (Event::Start { kind: 1 }.words(), Event::Finish.words());
     let codes = [0, 6, 7, 0xffff].map(|code| (code << 16 | 1, 0));
     let fields = [
@@ -198,7 +179,7 @@ fn bad_events(sample: &mut Sample) {
 }
 
 /// Refusal 3, and bytes 127 and 128.
-fn bad_text(sample: &mut Sample) {
+fn bad_text(sample: &mut Recorder) {
     let token = |length| Event::Token { kind: 2, length }.words();
     let (start, finish) = (Event::Start { kind: 1 }.words(), Event::Finish.words());
     for length in [0, 2, 3, 4, u32::MAX] {
@@ -214,7 +195,7 @@ fn bad_text(sample: &mut Sample) {
 }
 
 /// Refusals 11, 12 and 13, and what the builder's rules let pass.
-fn builder_rules(sample: &mut Sample) {
+fn builder_rules(sample: &mut Recorder) {
     let new = SheetWriter::default;
     let a = |it: SheetWriter| it.token(2, b"a");
     sample.case(new());
@@ -250,7 +231,7 @@ fn builder_rules(sample: &mut Sample) {
 }
 
 /// Refusal 14: 64 and 65 open nodes, and heights 64 and 65.
-fn limits(sample: &mut Sample) {
+fn limits(sample: &mut Recorder) {
     let opened = |count| (0..count).fold(SheetWriter::default(), |it, _| it.start(1));
     let finished = |it: SheetWriter, count| (0..count).fold(it, |it, _| it.finish());
     sample.case(finished(opened(64), 64));
@@ -267,7 +248,7 @@ fn limits(sample: &mut Sample) {
 }
 
 /// Which elements share a record: three and four children, hash 0, equal hashes, kind 0.
-fn sharing(sample: &mut Sample) {
+fn sharing(sample: &mut Recorder) {
     let node = |it: SheetWriter, count| {
         let start = it.start(2);
         (0..count).fold(start, |it, _| it.token(3, b"a")).finish()
@@ -303,7 +284,7 @@ fn sharing(sample: &mut Sample) {
 
 /// Refusal 15: tree T in just its places, and with one record, child place or byte too few. What is
 /// found needs none.
-fn small_stores(sample: &mut Sample) {
+fn small_stores(sample: &mut Recorder) {
     for short in [
         [0, 0, 0],
         [1, 0, 0],
@@ -326,7 +307,7 @@ fn small_stores(sample: &mut Sample) {
 }
 
 /// The same at the most that a store uses, in places beyond that.
-fn full_stores(sample: &mut Sample) {
+fn full_stores(sample: &mut Recorder) {
     // 8,192 records: the second sheet's node is the 8,190th
     sample.store(MORE);
     sample.run_shown_briefly(tokens(4_094, |ordinal| ordinal as u16));

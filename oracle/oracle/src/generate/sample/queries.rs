@@ -1,10 +1,9 @@
 //! Queries of the stored sample. The path of a where-is is free, so one is asked only where there is at
 //! most one occurrence.
 
-use super::{super::all_queries, tokens, tree_t, Sample, MOST};
+use super::{tokens, tree_t, Recorder, MOST};
 use crate::{
-    generate::{script, Profile},
-    reply::Reply,
+    generate::{exhaust::all_queries, script, Profile},
     script::{size, Call, Path, Step},
     sheet::SheetWriter,
 };
@@ -13,9 +12,9 @@ use crate::{
 const SCRIPTS: u64 = 40;
 const SCRIPT_BYTES: usize = 1_000;
 
-pub fn queries(sample: &mut Sample) {
+pub fn queries(sample: &mut Recorder) {
     for writer in [tree_t(), after_empty_token(), empties(), nested()] {
-        let root = sample.tree(writer);
+        let root = sample.tree_alone(writer);
         sample.all(root);
     }
     nowhere(sample);
@@ -35,23 +34,11 @@ fn path(root: u32, indexes: &[u32]) -> Path {
     }
 }
 
-impl Sample {
+impl Recorder {
     /// Runs a sheet on a store of its own, and answers its root.
-    fn tree(&mut self, writer: SheetWriter) -> u32 {
+    fn tree_alone(&mut self, writer: SheetWriter) -> u32 {
         self.store(MOST);
-        self.more(writer)
-    }
-
-    /// The same on what is there.
-    fn more(&mut self, writer: SheetWriter) -> u32 {
-        let (sheet, text) = writer.files();
-        let each = true;
-        let run = Call::Run { each, sheet, text };
-        let Reply::Run(reply) = self.model.answer(&run) else {
-            unreachable!("a run's reply")
-        };
-        self.calls.push(run);
-        reply.outcome.expect("a tree")
+        self.tree(writer)
     }
 
     /// Puts a query, unless its answer is free.
@@ -72,11 +59,6 @@ impl Sample {
             .map(|child| self.occurrences(number, *child))
             .sum();
         usize::from(number == under) + below
-    }
-
-    fn is_node(&self, path: &Path) -> bool {
-        let number = self.model.number_at(path);
-        number.is_some_and(|it| self.model.children(it).is_some())
     }
 
     /// All queries of a tree, but few of what is refused: ranges put to a token, paths that lead nowhere
@@ -159,8 +141,8 @@ fn nested() -> SheetWriter {
 }
 
 /// Refusal 4 of roots and indexes, and of a token where a node is wanted.
-fn nowhere(sample: &mut Sample) {
-    let root = sample.tree(tree_t());
+fn nowhere(sample: &mut Recorder) {
+    let root = sample.tree_alone(tree_t());
     let records = sample.model.counts().records as u32;
     for root in [0, records, u32::MAX] {
         for indexes in [&[][..], &[0], &[0, 0]] {
@@ -199,13 +181,13 @@ fn nowhere(sample: &mut Sample) {
 }
 
 /// One tree within another, and nodes that are spelled alike and share no record.
-fn two_roots(sample: &mut Sample) {
+fn two_roots(sample: &mut Recorder) {
     let inner = |it: SheetWriter| it.start(2).token(3, b"a").token(4, b"").finish();
-    let root = sample.tree(inner(SheetWriter::default()));
+    let root = sample.tree_alone(inner(SheetWriter::default()));
     let first = inner(SheetWriter::default().start(1)).token(5, b"");
-    let other = sample.more(inner(first).finish());
+    let other = sample.tree(inner(first).finish());
     let alike = |it: SheetWriter| (0..4).fold(it.start(6), |it, _| it.token(4, b"")).finish();
-    let third = sample.more(alike(alike(SheetWriter::default().start(1))).finish());
+    let third = sample.tree(alike(alike(SheetWriter::default().start(1))).finish());
     let paths = [
         path(root, &[]),
         path(root, &[0]),
@@ -234,11 +216,11 @@ fn two_roots(sample: &mut Sample) {
 }
 
 /// 64 nodes in one another, with and without tokens beside the chain: 64 indexes lead to a token.
-fn deep(sample: &mut Sample) {
+fn deep(sample: &mut Recorder) {
     let started = |it: SheetWriter, _| it.start(1).token(2, b"");
     let open = (0..64).fold(SheetWriter::default(), started);
     let closed = (0..63).fold(open.token(3, b"a"), |it, _| it.finish().token(4, b"b"));
-    let root = sample.tree(closed.finish());
+    let root = sample.tree_alone(closed.finish());
     let spine = vec![1; 64];
     for depth in [1, 32, 62, 63, 64] {
         sample.steps(&path(root, &spine[..depth]));
@@ -263,7 +245,7 @@ fn deep(sample: &mut Sample) {
         sample.query(Call::WhereIs { number, root });
     }
     let chain = (0..64).fold(SheetWriter::default(), |it, _| it.start(0));
-    let root = sample.tree((0..64).fold(chain, |it, _| it.finish()));
+    let root = sample.tree_alone((0..64).fold(chain, |it, _| it.finish()));
     for depth in [0, 62, 63, 64] {
         sample.steps(&path(root, &vec![0; depth]));
         sample.range(&path(root, &vec![0; depth]), 0, 0);
@@ -271,10 +253,10 @@ fn deep(sample: &mut Sample) {
 }
 
 /// A node over 4,000 children of which the last is a node.
-fn wide(sample: &mut Sample) {
+fn wide(sample: &mut Recorder) {
     let mut writer = tokens(3_999, |ordinal| ordinal as u16);
     writer.events.pop();
-    let root = sample.tree(writer.start(7).finish().finish());
+    let root = sample.tree_alone(writer.start(7).finish().finish());
     let whole = path(root, &[]);
     sample.steps(&whole);
     for index in [0, 1, 1_999, 3_998, 3_999, 4_000] {
