@@ -143,6 +143,10 @@ impl Model {
         self.store.counts()
     }
 
+    pub fn has_walk(&self, slot: usize) -> bool {
+        self.walks[slot].is_some()
+    }
+
     /// The length of the text in a slot.
     pub fn text_length(&self, slot: usize) -> Option<u32> {
         self.texts[slot].as_ref().map(Text::length)
