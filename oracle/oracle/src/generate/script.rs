@@ -73,15 +73,14 @@ impl Writer {
                 false => self.run(),
             };
         }
-        if is_empty || profile == Profile::Sheets || profile != Profile::All && first < 25 {
+        if is_empty {
             return self.run();
         }
         match profile {
-            Profile::Queries => match self.random.below(5) {
-                0 | 1 => self.steps(),
-                2 | 3 => self.offsets(),
-                _ => self.identities(),
-            },
+            Profile::Sheets => self.run(),
+            Profile::Queries | Profile::Reading if first < 25 => self.run(),
+            Profile::Queries => self.query(),
+            Profile::Reading => self.reading(),
             Profile::All => match first {
                 0..=11 => self.run(),
                 12 | 13 => self.run_deep_or_wide(),
@@ -90,7 +89,14 @@ impl Writer {
                 57 | 58 => self.grow(),
                 _ => self.reading(),
             },
-            _ => self.reading(),
+        }
+    }
+
+    fn query(&mut self) {
+        match self.random.below(5) {
+            0 | 1 => self.steps(),
+            2 | 3 => self.offsets(),
+            _ => self.identities(),
         }
     }
 

@@ -2,7 +2,7 @@
 
 use super::hash;
 use crate::reply::{Counts, Maker, Refusal, Reply};
-use std::collections::HashMap;
+use std::{collections::HashMap, ops::Range};
 
 /// The most that a store uses of what is lent to it.
 pub const MOST: Counts = Counts {
@@ -154,10 +154,20 @@ impl Store {
     }
 
     pub fn token_text(&self, record: &Record) -> Option<&[u8]> {
+        Some(self.text_part(self.token_part(record)?))
+    }
+
+    /// Where a token's bytes stand in the store's text.
+    pub fn token_part(&self, record: &Record) -> Option<Range<usize>> {
         match record.content {
-            Content::Token { first } => Some(&self.text[first..first + record.length as usize]),
+            Content::Token { first } => Some(first..first + record.length as usize),
             Content::Node { .. } => None,
         }
+    }
+
+    /// A part of the store's text.
+    pub fn text_part(&self, part: Range<usize>) -> &[u8] {
+        &self.text[part]
     }
 
     /// A record as it stands: a token's kind and text, or a node's kind, maker and children.

@@ -2,8 +2,8 @@
 
 mod edits;
 mod queries;
-mod texts;
-mod walks;
+pub mod texts;
+pub mod walks;
 
 pub use queries::all_queries;
 
@@ -127,7 +127,7 @@ impl Tree<'_> {
 }
 
 /// The paths of all elements, and for each one that leads nowhere.
-fn all_paths(model: &Model, root: u32) -> Vec<Path> {
+pub fn all_paths(model: &Model, root: u32) -> Vec<Path> {
     let mut paths = Vec::new();
     let indexes = Vec::new();
     collect_paths(model, Path { root, indexes }, &mut paths);

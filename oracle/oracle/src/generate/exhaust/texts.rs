@@ -9,9 +9,12 @@ use crate::{
     sheet::SheetWriter,
 };
 
+/// Both bytes that occur, and one that does not.
+const BYTES: &[u8] = b"abc";
+
 /// The text of every node, every slice of it and every slice of that, each with all that can be
 /// asked of it; and which of these slices are equal.
-pub fn calls(tree: &Tree) -> Vec<Vec<Call>> {
+pub(super) fn calls(tree: &Tree) -> Vec<Vec<Call>> {
     let about = tree.paths.iter().map(|path| about_path(tree, path));
     about.chain(equal_pairs(tree)).collect()
 }
@@ -21,16 +24,16 @@ fn about_path(tree: &Tree, path: &Path) -> Vec<Call> {
     let mut recorder = tree.recorder();
     let path = path.clone();
     recorder.put(Call::TextOf { slot: 0, path });
-    about_slot(&mut recorder, 0);
+    about_slot(&mut recorder, 0, BYTES);
     for (start, end) in ranges(&recorder, 0) {
         if !slice(&mut recorder, 1, 0, start, end) {
             continue;
         }
-        about_slot(&mut recorder, 1);
+        about_slot(&mut recorder, 1, BYTES);
         equal(&mut recorder, 1, 0);
         for (inner_start, inner_end) in ranges(&recorder, 1) {
             if slice(&mut recorder, 2, 1, inner_start, inner_end) {
-                about_slot(&mut recorder, 2);
+                about_slot(&mut recorder, 2, BYTES);
                 slice(&mut recorder, 3, 0, start + inner_start, start + inner_end);
                 (0..=3).for_each(|other| equal(&mut recorder, 2, other));
             }
@@ -40,7 +43,7 @@ fn about_path(tree: &Tree, path: &Path) -> Vec<Call> {
 }
 
 /// All starts and ends up to one past the text's length, also of wrong order; of no text a few.
-fn ranges(recorder: &Recorder, slot: usize) -> Vec<(u32, u32)> {
+pub fn ranges(recorder: &Recorder, slot: usize) -> Vec<(u32, u32)> {
     let past_end = recorder.model.text_length(slot).unwrap_or(0) + 1;
     let starts = 0..=past_end;
     starts
@@ -49,7 +52,7 @@ fn ranges(recorder: &Recorder, slot: usize) -> Vec<(u32, u32)> {
 }
 
 /// Takes a slice; whether there is one.
-fn slice(recorder: &mut Recorder, to: usize, from: usize, start: u32, end: u32) -> bool {
+pub fn slice(recorder: &mut Recorder, to: usize, from: usize, start: u32, end: u32) -> bool {
     let slice = Call::TextSlice {
         to,
         from,
@@ -59,14 +62,14 @@ fn slice(recorder: &mut Recorder, to: usize, from: usize, start: u32, end: u32) 
     recorder.put(slice) == Reply::Ok
 }
 
-fn equal(recorder: &mut Recorder, left: usize, right: usize) {
+pub fn equal(recorder: &mut Recorder, left: usize, right: usize) {
     recorder.put(Call::TextEqual { left, right });
 }
 
-/// Both bytes that occur and one that does not, all offsets and one past, all chunks, the end twice.
-fn about_slot(recorder: &mut Recorder, slot: usize) {
+/// These bytes, all offsets and one past, all chunks, the end twice, and the first chunk again.
+pub fn about_slot(recorder: &mut Recorder, slot: usize, bytes: &[u8]) {
     recorder.put(Call::TextLength { slot });
-    for byte in *b"abc" {
+    for byte in bytes.iter().copied() {
         recorder.put(Call::TextContains { slot, byte });
         recorder.put(Call::TextFind { slot, byte });
     }

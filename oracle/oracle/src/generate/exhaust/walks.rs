@@ -9,7 +9,7 @@ use crate::{
 
 /// Both walks from every path, without a skip, with one at every place and with two at every pair
 /// of places. Each is carried on until it has said twice that it has ended.
-pub fn calls(tree: &Tree) -> Vec<Vec<Call>> {
+pub(super) fn calls(tree: &Tree) -> Vec<Vec<Call>> {
     tree.paths
         .iter()
         .map(|path| from_path(tree, path))
@@ -33,7 +33,7 @@ fn from_path(tree: &Tree, path: &Path) -> Vec<Call> {
 
 /// A walk with a skip after so many events for each of the skips, which stand in order. Answers how
 /// many calls for the next event were made.
-fn walk(recorder: &mut Recorder, tokens: bool, path: &Path, skips: &[usize]) -> usize {
+pub fn walk(recorder: &mut Recorder, tokens: bool, path: &Path, skips: &[usize]) -> usize {
     let slot = skips.iter().sum::<usize>() % SLOTS;
     let path = path.clone();
     recorder.put(Call::WalkBegin { slot, tokens, path });

@@ -1,10 +1,12 @@
-//! Queries of the stored sample. The path of a where-is is free, so one is asked only where there is at
-//! most one occurrence.
+//! Queries of the stored sample.
 
-use super::{tokens, tree_t, Recorder, MOST};
+use super::{
+    after_empty_token, empties, first_bytes, nested, path, texts, tokens, tree_t, walks, Recorder,
+    MOST,
+};
 use crate::{
     generate::{exhaust::all_queries, script, Profile},
-    script::{size, Call, Path, Step},
+    script::{Call, Path, Step},
     sheet::SheetWriter,
 };
 
@@ -23,44 +25,13 @@ pub fn queries(sample: &mut Recorder) {
     wide(sample);
     for seed in 1..=SCRIPTS {
         sample.store(MOST);
-        sample.random_queries(seed);
-    }
-}
-
-fn path(root: u32, indexes: &[u32]) -> Path {
-    Path {
-        root,
-        indexes: indexes.to_vec(),
+        for call in first_bytes(script(seed, Profile::Queries), SCRIPT_BYTES) {
+            sample.put_settled(call);
+        }
     }
 }
 
 impl Recorder {
-    /// Runs a sheet on a store of its own, and answers its root.
-    fn tree_alone(&mut self, writer: SheetWriter) -> u32 {
-        self.store(MOST);
-        self.tree(writer)
-    }
-
-    /// Puts a query, unless its answer is free.
-    fn query(&mut self, call: Call) {
-        if let Call::WhereIs { number, root } = call {
-            if self.occurrences(number, root) > 1 {
-                return;
-            }
-        }
-        self.put(call);
-    }
-
-    /// How often a record occurs under another.
-    fn occurrences(&self, number: u32, under: u32) -> usize {
-        let children = self.model.children(under).unwrap_or_default();
-        let below: usize = children
-            .iter()
-            .map(|child| self.occurrences(number, *child))
-            .sum();
-        usize::from(number == under) + below
-    }
-
     /// All queries of a tree, but few of what is refused: ranges put to a token, paths that lead nowhere
     /// compared with each other.
     fn all(&mut self, root: u32) {
@@ -78,7 +49,7 @@ impl Recorder {
                 _ => true,
             };
             if is_kept {
-                self.query(call);
+                self.put_settled(call);
             }
         }
     }
@@ -103,41 +74,6 @@ impl Recorder {
         self.put(Call::TokenAtOffset { offset: start, path: path.clone() });
         self.put(Call::TokenAtOffset { offset: end, path: path.clone() });
     }
-
-    /// The first calls of a random script, as many as there is room for.
-    fn random_queries(&mut self, seed: u64) {
-        let mut bytes = 0;
-        for call in script(seed, Profile::Queries) {
-            bytes += size(&call);
-            if bytes > SCRIPT_BYTES {
-                return;
-            }
-            self.query(call);
-        }
-    }
-}
-
-/// Document 01's case: an empty token before "BS".
-fn after_empty_token() -> SheetWriter {
-    let start = SheetWriter::default().start(1).token(5, b"");
-    let tokens = start.token(2, b"BS").token(3, b" ");
-    tokens.token(4, b"12").finish()
-}
-
-/// Empty tokens at both ends and in a row, childless nodes between them, kind 0.
-fn empties() -> SheetWriter {
-    let start = SheetWriter::default().start(0).token(2, b"").token(2, b"");
-    let childless = start.token(3, b"BS").start(0).finish();
-    let more = childless.token(4, b"x").start(5).finish();
-    more.token(0, b"").finish()
-}
-
-/// Nodes in nodes with a shared one among them, one at the end and one over an empty token.
-fn nested() -> SheetWriter {
-    let inner = |it: SheetWriter| it.start(2).token(3, b"a").token(4, b"").finish();
-    let first = inner(SheetWriter::default().start(1)).token(5, b"b");
-    let empty = first.start(0).token(4, b"").start(6).finish().finish();
-    inner(empty.start(7)).finish().finish()
 }
 
 /// Refusal 4 of roots and indexes, and of a token where a node is wanted.
@@ -171,13 +107,13 @@ fn nowhere(sample: &mut Recorder) {
     for number in [0, root, records, u32::MAX] {
         for under in [0, root, records, u32::MAX] {
             let root = under;
-            sample.query(Call::WhereIs { number, root });
+            sample.put_settled(Call::WhereIs { number, root });
         }
     }
     // a store without a record
     sample.store([0, 0, 0]);
     sample.steps(&path(0, &[]));
-    sample.query(Call::WhereIs { number: 0, root: 0 });
+    sample.put_settled(Call::WhereIs { number: 0, root: 0 });
 }
 
 /// One tree within another, and nodes that are spelled alike and share no record.
@@ -210,7 +146,7 @@ fn two_roots(sample: &mut Recorder) {
     }
     for number in 0..=sample.model.counts().records as u32 {
         for root in [root, other, third] {
-            sample.query(Call::WhereIs { number, root });
+            sample.put_settled(Call::WhereIs { number, root });
         }
     }
 }
@@ -242,7 +178,7 @@ fn deep(sample: &mut Recorder) {
         sample.same(&path(root, &[]), &long);
     }
     for number in 0..=sample.model.counts().records as u32 {
-        sample.query(Call::WhereIs { number, root });
+        sample.put_settled(Call::WhereIs { number, root });
     }
     let chain = (0..64).fold(SheetWriter::default(), |it, _| it.start(0));
     let root = sample.tree_alone((0..64).fold(chain, |it, _| it.finish()));
@@ -266,6 +202,8 @@ fn wide(sample: &mut Recorder) {
         sample.range(&whole, index, index.saturating_add(2));
     }
     for number in [0, 1_998, 3_998, 3_999, root] {
-        sample.query(Call::WhereIs { number, root });
+        sample.put_settled(Call::WhereIs { number, root });
     }
+    walks::along(sample, &whole);
+    texts::along(sample, &whole);
 }
