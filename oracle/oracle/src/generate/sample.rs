@@ -46,9 +46,9 @@ pub fn sample() -> Vec<Call> {
     small_stores(&mut sample);
     full_stores(&mut sample);
     for run in all_sheets(SHORT) {
-        run_twice(&run).into_iter().for_each(|call| {
+        for call in run_twice(&run) {
             sample.put(call);
-        });
+        }
     }
     for seed in 1..=SHEET_SCRIPTS {
         sample.store(MOST);
