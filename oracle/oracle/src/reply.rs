@@ -20,6 +20,13 @@ pub struct Counts {
     pub bytes: usize,
 }
 
+/// What made a node's record.
+#[derive(Debug, Clone, Copy, PartialEq, Eq)]
+pub enum Maker {
+    Event,
+    Edit,
+}
+
 /// A refusal's number in document 01.
 #[derive(Debug, Clone, Copy, PartialEq, Eq, PartialOrd, Ord)]
 pub struct Refusal(pub u8);
@@ -80,8 +87,10 @@ pub enum Reply {
     Chunk(Vec<u8>),
     At(u32),
     Char(u8),
-    Record { is_node: bool, kind: u16, length: u32, size: u32, height: u32, children: u32 },
+    Measured { is_node: bool, kind: u16, length: u32, size: u32, height: u32, children: u32 },
     Mark(u64),
+    TokenRecord { kind: u16, text: Vec<u8> },
+    NodeRecord { kind: u16, maker: Maker, children: Vec<u32> },
 }
 
 impl Reply {
@@ -124,13 +133,22 @@ impl Display for Element {
     }
 }
 
-/// Child indexes after their number.
+/// Child indexes or numbers after their count.
 struct Indexes<'a>(&'a [u32]);
 
 impl Display for Indexes<'_> {
     fn fmt(&self, f: &mut fmt::Formatter<'_>) -> fmt::Result {
         write!(f, "{}", self.0.len())?;
         self.0.iter().try_for_each(|it| write!(f, " {it}"))
+    }
+}
+
+impl Display for Maker {
+    fn fmt(&self, f: &mut fmt::Formatter<'_>) -> fmt::Result {
+        match self {
+            Maker::Event => write!(f, "event"),
+            Maker::Edit => write!(f, "edit"),
+        }
     }
 }
 
@@ -182,22 +200,31 @@ impl Display for Reply {
             Reply::Leave(element) => write!(f, "leave {element}"),
             Reply::Found(indexes) => write!(f, "found {}", Indexes(indexes)),
             Reply::Length(length) => write!(f, "length {length}"),
-            Reply::Chunk(bytes) => write_chunk(f, bytes),
+            Reply::Chunk(bytes) => write!(f, "chunk {}", Bytes(bytes)),
             Reply::At(offset) => write!(f, "at {offset}"),
             Reply::Char(byte) => write!(f, "char {byte}"),
-            Reply::Record { is_node, kind, length, size, height, children } => {
+            Reply::Measured { is_node, kind, length, size, height, children } => {
                 let what = if *is_node { "node" } else { "token" };
                 write!(f, "{what} {kind} {length} {size} {height} {children}")
             }
             Reply::Mark(mark) => write!(f, "mark {mark:016x}"),
+            Reply::TokenRecord { kind, text } => write!(f, "token {kind} {}", Bytes(text)),
+            Reply::NodeRecord { kind, maker, children } => {
+                write!(f, "node {kind} {maker} {}", Indexes(children))
+            }
         }
     }
 }
 
-fn write_chunk(f: &mut fmt::Formatter<'_>, bytes: &[u8]) -> fmt::Result {
-    write!(f, "chunk {}", bytes.len())?;
-    if !bytes.is_empty() {
-        write!(f, " ")?;
+/// Bytes in hexadecimal after their count.
+struct Bytes<'a>(&'a [u8]);
+
+impl Display for Bytes<'_> {
+    fn fmt(&self, f: &mut fmt::Formatter<'_>) -> fmt::Result {
+        write!(f, "{}", self.0.len())?;
+        if !self.0.is_empty() {
+            write!(f, " ")?;
+        }
+        self.0.iter().try_for_each(|it| write!(f, "{it:02x}"))
     }
-    bytes.iter().try_for_each(|it| write!(f, "{it:02x}"))
 }

@@ -157,7 +157,7 @@ fn exhaust_counts_its_sheets() {
     let (status, out, _) = oracle(&["exhaust", "2", "--queries"]);
     assert_eq!(status, Some(0), "{out}");
     assert!(
-        out.starts_with("no difference: 73 sheets, 2 trees queried; "),
+        out.starts_with("no difference: 73 sheets, 2 trees with all queries; "),
         "{out}"
     );
     let folder = Folder::new("exhaust");
@@ -165,6 +165,41 @@ fn exhaust_counts_its_sheets() {
     let (status, with_program, _) =
         oracle(&["exhaust", "2", "--queries", "--program", word(&right)]);
     assert_eq!((status, with_program), (Some(0), out));
+}
+
+#[test]
+fn exhaust_asks_all_that_is_wanted_of_each_tree() {
+    for (words, wanted) in [
+        (&["exhaust", "2"][..], "no difference: 73 sheets; "),
+        (
+            &["exhaust", "2", "--walks"],
+            "no difference: 73 sheets, 2 trees with all walks; ",
+        ),
+        (
+            &["exhaust", "2", "--edits", "--texts"],
+            "no difference: 73 sheets, 2 trees with all texts, edits; ",
+        ),
+    ] {
+        let (status, out, error) = oracle(words);
+        assert_eq!((status, error.as_str()), (Some(0), ""), "{out}");
+        assert!(out.starts_with(wanted), "{out}");
+    }
+}
+
+#[test]
+fn compare_passes_over_what_comes_after_an_edit_that_is_not_offered() {
+    let folder = Folder::new("edits");
+    let edit = "s/^(element [0-9]+|refused [0-9]+) store .*/-/";
+    let line = format!("'{ORACLE}' replay calls | sed -E '{edit}'");
+    let without = folder.program("without", &line);
+    let (status, out, _) = oracle(&["compare", word(&without), "--scripts", "5", "--seed", "3"]);
+    assert_eq!(status, Some(0), "{out}");
+    assert!(
+        out.contains(" calls not offered and passed over; "),
+        "{out}"
+    );
+    let end = " passed over after an edit that was not offered\n";
+    assert!(out.ends_with(end), "{out}");
 }
 
 #[test]

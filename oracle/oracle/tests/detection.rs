@@ -3,7 +3,7 @@
 mod support;
 
 use oracle::{
-    compare::{check_output, minimise, Difference},
+    compare::{check_output, minimise, Difference, Fate},
     generate::{script, Profile},
     script::{Call, Step},
 };
@@ -33,11 +33,17 @@ const RIGHT: [&str; 9] = [
     "element 4 store 5 6 5",
 ];
 
+/// What becomes of each call if there is no difference.
+fn fates(calls: &[Call], lines: &[&str]) -> Result<Vec<Fate>, Difference> {
+    let checked = check_output(calls, &(lines.join("\n") + "\n"))?;
+    assert_eq!(checked.len(), calls.len());
+    Ok(checked.iter().map(|it| it.fate).collect())
+}
+
 /// How many replies are passed over if there is no difference.
 fn check(lines: &[&str]) -> Result<usize, Difference> {
-    let checked = check_output(&calls(), &(lines.join("\n") + "\n"))?;
-    assert_eq!(checked.replies.len(), 4);
-    Ok(checked.passed_over)
+    let fates = fates(&calls(), lines)?;
+    Ok(fates.iter().filter(|it| **it != Fate::Compared).count())
 }
 
 #[test]
@@ -97,6 +103,42 @@ fn a_call_that_is_not_offered_is_passed_over() {
     let mut lines = RIGHT;
     lines[2] = "-";
     assert_eq!(check(&lines).map_err(|it| it.call), Err(0));
+}
+
+#[test]
+fn all_is_passed_over_from_an_edit_that_is_not_offered_to_the_next_store() {
+    use Fate::*;
+    let record = |number| Call::Record { number };
+    let [run, ..] = &calls()[..] else {
+        unreachable!("tree T's run is first")
+    };
+    let edited = [
+        run.clone(),
+        insert_child(3, 9, 0),
+        record(3),
+        remove_child(3, 0),
+        record(4),
+        run.clone(),
+        store(9, 9, 9),
+        record(0),
+    ];
+    let rest = ["-", "node 1 event 3 0 1 2", "-", "refused 4"];
+    let lines = [&RIGHT[..6], &rest, &RIGHT[..6], &["ok", "refused 4"]].concat();
+    // The refused insertion makes nothing, so what comes after it is compared.
+    let expected = [
+        Compared, NotOffered, Compared, NotOffered, AfterEdit, AfterEdit, Compared, Compared,
+    ];
+    assert_eq!(fates(&edited, &lines), Ok(expected.to_vec()));
+    let mut wrong = lines.clone();
+    wrong[7] = "node 1 edit 3 0 1 2";
+    assert_eq!(fates(&edited, &wrong).map_err(|it| it.call), Err(2));
+    wrong = lines.clone();
+    wrong[17] = "token 2 2 4253";
+    assert_eq!(fates(&edited, &wrong).map_err(|it| it.call), Err(7));
+    // A program that stops or fails there is reported.
+    assert_eq!(fates(&edited, &lines[..9]).map_err(|it| it.call), Err(4));
+    let failed = [&lines[..9], &["(the program ended with exit status: 1)"]].concat();
+    assert_eq!(fates(&edited, &failed).map_err(|it| it.call), Err(4));
 }
 
 #[test]

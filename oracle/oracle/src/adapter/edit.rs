@@ -2,7 +2,7 @@
 
 use super::{caught, is_outside_domain, reading, table::Green, Adapter, Fault};
 use crate::{
-    reply::{Refusal, Reply},
+    reply::{Maker, Refusal, Reply},
     script::{Call, Path},
 };
 use rowan::{cursor::SyntaxElement, GreenNode, NodeOrToken};
@@ -51,7 +51,7 @@ impl Adapter {
     /// Numbers a record that an edit must have made.
     fn admit_new(&mut self, node: GreenNode) -> Result<u32, Fault> {
         let next = self.table.counts().records as u32;
-        let number = self.table.admit(node.into())?;
+        let number = self.table.admit(node.into(), Maker::Edit)?;
         if number != next {
             return Err(Fault(format!(
                 "rowan's edit answers the old record {number}"
@@ -68,7 +68,7 @@ impl Adapter {
             return Ok(Err(Refusal::UNLIKE_REPLACEMENT));
         };
         if path.indexes.is_empty() {
-            return self.table.admit(root.into()).map(Ok);
+            return self.table.admit(root.into(), Maker::Edit).map(Ok);
         }
         let mut ancestors = vec![root];
         for index in &path.indexes[..path.indexes.len() - 1] {

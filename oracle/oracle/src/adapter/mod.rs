@@ -15,7 +15,7 @@ pub use panics::caught;
 use crate::{
     model::Model,
     reply::Reply,
-    script::{Call, SLOTS},
+    script::{Call, Group, SLOTS},
 };
 use panics::caught_with_message;
 use rowan::NodeCache;
@@ -63,33 +63,26 @@ impl Adapter {
         &self.model
     }
 
-    #[rustfmt::skip]
     fn by_rowan(&mut self, call: &Call, model: &Reply) -> Result<Reply, Fault> {
-        match call {
-            Call::Store { .. } => {
-                let model = std::mem::take(&mut self.model);
-                *self = Adapter { model, ..Adapter::default() };
-                Ok(Reply::Ok)
-            }
-            Call::Run { each, sheet, text } => {
-                let Reply::Run(expected) = model else {
-                    return Err(Fault("the model answers no run".into()));
-                };
-                self.run(sheet, text, *each, expected).map(Reply::Run)
-            }
-            Call::ReplaceChild { .. } | Call::InsertChild { .. } | Call::RemoveChild { .. }
-            | Call::SpliceChildren { .. } | Call::ReplaceWith { .. } => self.edit(call, model),
-            Call::WalkBegin { .. } | Call::WalkNext { .. } | Call::WalkSkip { .. } => {
-                Ok(self.walk(call, model))
-            }
-            Call::TextOf { .. } | Call::TextSlice { .. } | Call::TextLength { .. }
-            | Call::ChunkBegin { .. } | Call::ChunkNext { .. } | Call::TextContains { .. }
-            | Call::TextFind { .. } | Call::TextCharAt { .. } | Call::TextEqual { .. } => {
-                Ok(self.text(call, model))
-            }
-            Call::Unknown { .. } => Ok(Reply::NotOffered),
-            _ => self.read(call, model),
+        match call.group() {
+            Group::Store => Ok(self.renew()),
+            Group::Run => self.run(call, model),
+            Group::Edit => self.edit(call, model),
+            Group::Walk => Ok(self.walk(call, model)),
+            Group::Text => Ok(self.text(call, model)),
+            Group::Query | Group::Record => self.read(call, model),
+            Group::Unknown => Ok(Reply::NotOffered),
         }
+    }
+
+    /// All that is left is the model, which has its new store already.
+    fn renew(&mut self) -> Reply {
+        let model = std::mem::take(&mut self.model);
+        *self = Adapter {
+            model,
+            ..Adapter::default()
+        };
+        Reply::Ok
     }
 }
 

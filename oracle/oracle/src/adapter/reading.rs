@@ -72,8 +72,9 @@ impl Adapter {
                 Reply::flag(resolve(&self.table, left) == resolve(&self.table, right))
             }
             Call::WhereIs { number, root } => self.check_where_is(*number, *root, model)?,
-            Call::Element { number } => self.table.described(*number),
+            Call::Element { number } => self.table.measured(*number),
             Call::Mark { number } => Reply::Mark(self.table.hash(*number)),
+            Call::Record { number } => self.table.shown(*number)?,
             _ => unreachable!("not a reading call"),
         })
     }

@@ -6,7 +6,8 @@
 
 use super::{caught, table::Green, Adapter, Fault};
 use crate::{
-    reply::{Counts, Refusal, Run},
+    reply::{Counts, Maker, Refusal, Reply, Run},
+    script::Call,
     sheet::{Event, Sheet},
 };
 use rowan::{Checkpoint, GreenNode, GreenNodeBuilder, NodeCache, NodeOrToken, SyntaxKind};
@@ -15,7 +16,14 @@ use rowan::{Checkpoint, GreenNode, GreenNodeBuilder, NodeCache, NodeOrToken, Syn
 const PADS: usize = 4;
 
 impl Adapter {
-    pub(super) fn run(
+    pub(super) fn run(&mut self, call: &Call, model: &Reply) -> Result<Reply, Fault> {
+        let (Call::Run { each, sheet, text }, Reply::Run(expected)) = (call, model) else {
+            return Err(Fault("the model answers no run".into()));
+        };
+        self.run_sheet(sheet, text, *each, expected).map(Reply::Run)
+    }
+
+    fn run_sheet(
         &mut self,
         sheet: &[u8],
         text: &[u8],
@@ -53,7 +61,7 @@ impl Adapter {
                 self.admit_in_postorder(&child, yields)?;
             }
         }
-        let number = self.table.admit(tree.clone())?;
+        let number = self.table.admit(tree.clone(), Maker::Event)?;
         self.check_children(number)?;
         yields.push((number, self.table.counts()));
         Ok(())

@@ -3,7 +3,7 @@
 //! by construction, and agreement with the model's numbers is agreement about sharing.
 
 use super::Fault;
-use crate::reply::{Counts, Reply};
+use crate::reply::{Counts, Maker, Reply};
 use rowan::{hashes, GreenNode, GreenNodeData, GreenToken, GreenTokenData, NodeOrToken};
 use std::{
     cell::OnceCell,
@@ -17,6 +17,7 @@ type Address = *const ();
 struct Entry {
     /// Held, so that no other element gets its address.
     green: Green,
+    maker: Maker,
     children: Vec<u32>,
     size: u32,
     height: u32,
@@ -65,8 +66,9 @@ impl Table {
         &self.entries[number as usize].children
     }
 
-    /// The element's number, the next one if it is met for the first time.
-    pub fn admit(&mut self, green: Green) -> Result<u32, Fault> {
+    /// The element's number, the next one if it is met for the first time: then the call under way
+    /// made it.
+    pub fn admit(&mut self, green: Green, maker: Maker) -> Result<u32, Fault> {
         if let Some(number) = self.numbers.get(&address(as_ref(&green))) {
             return Ok(*number);
         }
@@ -85,6 +87,7 @@ impl Table {
             size,
             height: height + u32::from(green.as_node().is_some()),
             children,
+            maker,
             green,
             hash: OnceCell::new(),
         });
@@ -102,9 +105,9 @@ impl Table {
             .ok_or_else(|| Fault("rowan has copied a child".into()))
     }
 
-    pub fn described(&self, number: u32) -> Reply {
+    pub fn measured(&self, number: u32) -> Reply {
         let entry = &self.entries[number as usize];
-        Reply::Record {
+        Reply::Measured {
             is_node: entry.green.as_node().is_some(),
             kind: entry.green.kind().0,
             length: entry.green.text_len().into(),
@@ -112,6 +115,23 @@ impl Table {
             height: entry.height,
             children: entry.children.len() as u32,
         }
+    }
+
+    /// The element as rowan holds it; what made it was noted when it was met.
+    pub fn shown(&self, number: u32) -> Result<Reply, Fault> {
+        let entry = &self.entries[number as usize];
+        let kind = entry.green.kind().0;
+        Ok(match &entry.green {
+            NodeOrToken::Token(token) => Reply::TokenRecord {
+                kind,
+                text: token.text().as_bytes().to_vec(),
+            },
+            NodeOrToken::Node(_) => Reply::NodeRecord {
+                kind,
+                maker: entry.maker,
+                children: self.child_numbers(&entry.green)?,
+            },
+        })
     }
 
     /// The hash that rowan's node cache has for the element.

@@ -1,7 +1,8 @@
 //! `oracle compare`.
 
 use super::{
-    gen::profile_of_name, number, options::take_value, replay::read_script, write_file, Failure,
+    gen::profile_of_name, number, options::take_value, progress::Progress, replay::read_script,
+    write_file, Failure,
 };
 use crate::{
     compare::{Program, Subject, Tally},
@@ -28,8 +29,10 @@ pub fn compare(words: &[&str]) -> Result<(), Failure> {
     if let Some(file) = file {
         comparison.check(&read_script(file)?, file)?;
     } else {
+        let mut progress = Progress::new(count as usize, "scripts");
         for seed in (0..count).map(|it| seed.wrapping_add(it)) {
             comparison.check(&script(seed, profile), &format!("seed {seed}"))?;
+            progress.advance();
         }
     }
     println!("no difference: {}", comparison.tally);

@@ -4,12 +4,11 @@ use super::{
     compare::Comparison,
     number,
     options::{take_flag, take_value},
+    progress::Progress,
     Failure,
 };
 use crate::{
-    generate::{all_calls, all_sheets},
-    model::Model,
-    reply::Reply,
+    generate::{all_sheets, run_twice, sheet_count, tree_calls, Topic},
     script::{size, Call, MAX_BYTES},
 };
 
@@ -19,7 +18,7 @@ const MAX_EVENTS: usize = 9;
 pub fn exhaust(events: &str, words: &[&str]) -> Result<(), Failure> {
     let events: usize = number(events)?;
     let mut words = words.to_vec();
-    let with_queries = take_flag(&mut words, "--queries");
+    let topics = take_topics(&mut words);
     let program = take_value(&mut words, "--program")?;
     let save = take_value(&mut words, "--save")?;
     if !words.is_empty() || events > MAX_EVENTS {
@@ -30,37 +29,34 @@ pub fn exhaust(events: &str, words: &[&str]) -> Result<(), Failure> {
         calls: Vec::new(),
         bytes: 0,
     };
-    let mut sheets = 0;
+    let sheets = sheet_count(events);
     let mut trees = 0;
-    for mut calls in all_sheets(events) {
-        if with_queries {
-            trees += usize::from(add_calls(&mut calls));
-        }
-        sheets += 1;
-        batch.add(calls)?;
+    let mut progress = Progress::new(sheets, "sheets");
+    for run in all_sheets(events) {
+        trees += usize::from(batch.sheet(&run, &topics)?);
+        progress.advance();
     }
     batch.flush()?;
+    let asked = match topics.is_empty() {
+        true => String::new(),
+        false => format!(", {trees} trees with all {}", names(&topics)),
+    };
     println!(
-        "no difference: {sheets} sheets, {trees} trees queried; {}",
+        "no difference: {sheets} sheets{asked}; {}",
         batch.comparison.tally
     );
     Ok(())
 }
 
-/// Adds all queries and edits of the tree that the calls build, if they build one.
-fn add_calls(calls: &mut Vec<Call>) -> bool {
-    let mut model = Model::default();
-    let mut root = None;
-    for call in calls.iter() {
-        if let Reply::Run(run) = model.answer(call) {
-            root = run.outcome.ok();
-        }
-    }
-    let Some(root) = root else {
-        return false;
-    };
-    calls.extend(all_calls(&model, root));
-    true
+/// The topics that stand among the words as `--` and their name.
+fn take_topics(words: &mut Vec<&str>) -> Vec<Topic> {
+    let mut is_there = |topic: &Topic| take_flag(words, &format!("--{}", topic.name()));
+    Topic::ALL.into_iter().filter(|it| is_there(it)).collect()
+}
+
+fn names(topics: &[Topic]) -> String {
+    let names: Vec<&str> = topics.iter().map(|it| it.name()).collect();
+    names.join(", ")
 }
 
 /// Calls of many sheets in one script, which saves runs of a program.
@@ -71,6 +67,25 @@ struct Batch<'a> {
 }
 
 impl Batch<'_> {
+    /// Adds all calls about a sheet; whether it makes a tree that is asked about.
+    fn sheet(&mut self, run: &Call, topics: &[Topic]) -> Result<bool, Failure> {
+        // Queries are put after the two runs that are made of any sheet.
+        let mut is_run = false;
+        let mut is_tree = false;
+        for topic in topics {
+            let Some(parts) = tree_calls(run, *topic) else {
+                break;
+            };
+            is_tree = true;
+            is_run |= *topic == Topic::Queries;
+            parts.into_iter().try_for_each(|it| self.add(it))?;
+        }
+        if !is_run {
+            self.add(run_twice(run))?;
+        }
+        Ok(is_tree)
+    }
+
     fn add(&mut self, calls: Vec<Call>) -> Result<(), Failure> {
         let bytes = calls.iter().map(size).sum::<usize>();
         if self.bytes + bytes > MAX_BYTES {

@@ -29,7 +29,8 @@ fn listing(sheet: Vec<u8>, text: Vec<u8>) -> Result<String, Failure> {
         }
     };
     let mut lines = String::new();
-    if let Reply::Record { size, length, .. } = ask(&mut adapter, &Call::Element { number: root })?
+    if let Reply::Measured { size, length, .. } =
+        ask(&mut adapter, &Call::Element { number: root })?
     {
         let records = run.store.records;
         lines += &format!("tree records {records} size {size} length {length}\n");

@@ -5,6 +5,7 @@ mod exhaust;
 mod gen;
 mod list;
 mod options;
+mod progress;
 mod replay;
 mod sample;
 
@@ -16,10 +17,10 @@ use: oracle replay FILE
      oracle model FILE
          prints the model's replies alone
      oracle gen SEED COUNT FOLDER [PROFILE]
-         writes random call scripts; a profile is sheets, reading or all
-     oracle exhaust EVENTS [--queries] [--program PROGRAM] [--save FILE]
-         compares all sheets of up to so many events, on request with all queries and edits
-         of each tree
+         writes random call scripts; a profile is sheets, queries, reading or all
+     oracle exhaust EVENTS [--queries] [--walks] [--texts] [--edits] [--program PROGRAM] [--save FILE]
+         compares all sheets of up to so many events, on request with all queries, walks, texts
+         or edits of each tree
      oracle compare [PROGRAM] [--seed SEED] [--scripts COUNT] [--profile PROFILE] [--save FILE]
          compares rowan and the model, and a program with them, on random call scripts;
          a script that shows a difference is minimised, printed and on request saved

@@ -10,7 +10,11 @@ pub use minimise::minimise;
 pub use program::Program;
 pub use tally::Tally;
 
-use crate::{adapter::Adapter, reply::Reply, script::Call};
+use crate::{
+    adapter::Adapter,
+    reply::Reply,
+    script::{Call, Group},
+};
 use std::fmt;
 
 /// The first call of a script to which two replies differ.
@@ -36,14 +40,23 @@ impl fmt::Display for Difference {
     }
 }
 
-/// The oracle's replies to a script that shows no difference.
+/// What became of a call in a comparison without a difference.
+#[derive(Debug, Clone, Copy, PartialEq, Eq, PartialOrd, Ord)]
+pub enum Fate {
+    Compared,
+    /// The program does not offer it.
+    NotOffered,
+    /// The program does not offer an edit that was accepted before, so its store is another.
+    AfterEdit,
+}
+
+/// A call of a script that shows no difference.
 #[derive(Debug, Clone, PartialEq, Eq)]
 pub struct Checked {
-    pub replies: Vec<Reply>,
-    /// How many of them a program did not offer.
-    pub passed_over: usize,
-    /// How many of the others answer calls 20 to 38.
-    pub queries: usize,
+    pub group: Group,
+    pub fate: Fate,
+    /// The oracle's.
+    pub reply: Reply,
 }
 
 /// Puts a script to both readings: rowan's replies, or the first difference.
@@ -54,6 +67,16 @@ pub fn replies(calls: &[Call]) -> Result<Vec<Reply>, Difference> {
         .enumerate()
         .map(|(number, call)| reply(&mut adapter, number, call))
         .collect()
+}
+
+/// Replies that no program was asked for.
+pub fn all_compared(calls: &[Call], replies: Vec<Reply>) -> Vec<Checked> {
+    let checked = |(call, reply): (&Call, Reply)| Checked {
+        group: call.group(),
+        fate: Fate::Compared,
+        reply,
+    };
+    calls.iter().zip(replies).map(checked).collect()
 }
 
 /// rowan's reply to the call of this number, if the model gives the same.
@@ -80,13 +103,9 @@ pub enum Subject {
 
 impl Subject {
     /// The replies, or the first difference. The error is one of running the program.
-    pub fn check(&self, calls: &[Call]) -> Result<Result<Checked, Difference>, String> {
+    pub fn check(&self, calls: &[Call]) -> Result<Result<Vec<Checked>, Difference>, String> {
         match self {
-            Subject::Readings => Ok(replies(calls).map(|replies| Checked {
-                replies,
-                passed_over: 0,
-                queries: calls.iter().filter(|it| it.is_query()).count(),
-            })),
+            Subject::Readings => Ok(replies(calls).map(|replies| all_compared(calls, replies))),
             Subject::Program(program) => Ok(check_output(calls, &program.output(calls)?)),
         }
     }

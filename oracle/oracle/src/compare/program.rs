@@ -11,6 +11,9 @@ use std::{
 /// A program that reads the file `calls` in its current folder and prints the replies.
 pub struct Program(PathBuf);
 
+/// How the line begins that tells of a program's failure.
+pub const ENDED_WITH: &str = "(the program ended with ";
+
 /// A folder of this process's own, removed with the value.
 struct Folder(PathBuf);
 
@@ -54,7 +57,7 @@ impl Program {
         match output.status.success() {
             true => Ok(text),
             // What it printed before is compared, and this line is no reply to any call.
-            false => Ok(text + &format!("(the program ended with {})\n", output.status)),
+            false => Ok(text + &format!("{ENDED_WITH}{})\n", output.status)),
         }
     }
 }

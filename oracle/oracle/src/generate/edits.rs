@@ -99,8 +99,18 @@ impl Writer {
                     outcome: Ok(number),
                     ..
                 } => node = number,
-                _ => break,
+                _ => return self.past_limit(node),
             }
         }
+    }
+
+    /// Edits that put a node in itself, which is about as large as can be.
+    fn past_limit(&mut self, node: u32) {
+        let index = self.random.below(4) as u32;
+        let new = node;
+        self.put(Call::ReplaceChild { node, index, new });
+        self.put(Call::InsertChild { node, index, new });
+        let path = self.path_under(node);
+        self.put(Call::ReplaceWith { new, path });
     }
 }

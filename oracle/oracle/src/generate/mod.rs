@@ -6,11 +6,12 @@ mod exhaust;
 mod paths;
 mod queries;
 mod random;
+mod recorder;
 mod sample;
 mod script;
 mod sheets;
 
-pub use exhaust::{all_calls, all_queries, all_sheets};
+pub use exhaust::{all_sheets, run_twice, sheet_count, tree_calls, Topic};
 pub use random::Random;
 pub use sample::sample;
 pub use script::script;

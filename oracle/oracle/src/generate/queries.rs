@@ -57,18 +57,20 @@ impl Writer {
         let number = self.number();
         self.put(Call::Element { number });
         self.put(Call::Mark { number });
+        self.put(Call::Record { number });
     }
 
     /// Begins a walk or carries one on.
     pub fn walk(&mut self) {
         let slot = self.random.below(SLOTS);
-        if self.random.chance(60) {
+        let begins = if self.model.has_walk(slot) { 40 } else { 95 };
+        if self.random.chance(begins) {
             let tokens = self.random.chance(60);
             let path = self.node_path();
             self.put(Call::WalkBegin { slot, tokens, path });
         }
-        let skips = *self.random.pick(&[0, 0, 10, 40]);
-        let steps = *self.random.pick(&[2, 10, 40]);
+        let skips = *self.random.pick(&[0, 10, 40, 60]);
+        let steps = *self.random.pick(&[2, 6, 20, 40]);
         for _ in 0..self.random.between(1, steps) {
             if self.random.chance(skips) {
                 self.put(Call::WalkSkip { slot });
@@ -86,6 +88,9 @@ impl Writer {
         if self.model.text_length(slot).is_none() && self.random.chance(95) {
             let path = self.text_path();
             self.put(Call::TextOf { slot, path });
+        }
+        if self.model.text_length(slot).is_none() && self.random.chance(60) {
+            return;
         }
         if self.random.chance(60) {
             slot = self.slice(slot);
@@ -128,25 +133,27 @@ impl Writer {
             true => (start.min(end), start.max(end)),
             false => (start, end),
         };
-        self.put(Call::TextSlice {
+        let reply = self.put(Call::TextSlice {
             to,
             from,
             start,
             end,
         });
-        to
+        match reply {
+            Reply::Ok => to,
+            // The slot is empty now.
+            _ if self.random.chance(10) => to,
+            _ => from,
+        }
     }
 
     fn text_question(&mut self, slot: usize) -> Call {
         let length = self.model.text_length(slot).unwrap_or(0);
-        let byte = match self.random.chance(80) {
-            true => *self.random.pick(b"aBS 12c\x7f"),
-            false => self.random.number() as u8,
-        };
         let offset = match self.random.chance(90) {
             true => self.random.below(length as usize + 2) as u32,
             false => self.random.word(),
         };
+        let byte = self.byte(slot, offset);
         match self.random.below(12) {
             0 => Call::TextLength { slot },
             1 => Call::ChunkBegin { slot },
@@ -158,6 +165,16 @@ impl Writer {
                 right: self.random.below(SLOTS),
             },
             _ => Call::ChunkNext { slot },
+        }
+    }
+
+    /// A byte to look for: one of the text, a frequent one, or any.
+    fn byte(&mut self, slot: usize, offset: u32) -> u8 {
+        let there = self.model.answer(&Call::TextCharAt { slot, offset });
+        match (self.random.below(10), there) {
+            (0..=4, Reply::Char(byte)) => byte,
+            (0..=8, _) => *self.random.pick(b"aBS 12c\x7f"),
+            _ => self.random.number() as u8,
         }
     }
 }

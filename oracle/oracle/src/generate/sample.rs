@@ -1,35 +1,42 @@
-//! The stored sample: runs of sheets at and past every limit, all sheets of few events, queries of
-//! chosen trees, and random calls, each on a store of its own.
+//! The stored sample: runs of sheets at and past every limit, all sheets of few events, queries,
+//! edits, walks and texts of chosen trees, and random calls, each on a store of its own.
 
+mod edits;
 mod queries;
+mod texts;
+mod walks;
 
 use super::{
     collisions::{ZERO_NODES, ZERO_TOKENS},
-    exhaust::all_sheets,
+    exhaust::{all_sheets, run_twice},
+    recorder::{Recorder, MOST},
     script::script,
     sheets::Files,
     Profile,
 };
 use crate::{
-    model::Model,
-    script::{size, Call},
+    script::{size, Call, Path},
     sheet::{Event, SheetWriter},
 };
 
-/// The places of a store that may use all that document 01 allows, and of one that is lent more.
-const MOST: [u32; 3] = [8_192, 16_384, 65_536];
+/// More places than a store uses.
 const MORE: [u32; 3] = [70_000; 3];
 
 /// All sheets of up to so many events.
 const SHORT: usize = 3;
 
 /// How many random scripts are cut to how many bytes.
-const SCRIPTS: u64 = 200;
-const SCRIPT_BYTES: usize = 1_200;
+const SHEET_SCRIPTS: u64 = 60;
+const SHEET_BYTES: usize = 1_200;
+
+/// The same of scripts of all calls, with the fewest calls that are kept of one.
+const MIXED_SCRIPTS: usize = 40;
+const MIXED_BYTES: usize = 2_400;
+const MIXED_CALLS: usize = 60;
 
 /// The calls of the sample.
 pub fn sample() -> Vec<Call> {
-    let mut sample = Sample::default();
+    let mut sample = Recorder::default();
     malformed(&mut sample);
     bad_events(&mut sample);
     bad_text(&mut sample);
@@ -38,37 +45,70 @@ pub fn sample() -> Vec<Call> {
     sharing(&mut sample);
     small_stores(&mut sample);
     full_stores(&mut sample);
-    for calls in all_sheets(SHORT) {
-        sample.calls.extend(calls);
+    for run in all_sheets(SHORT) {
+        for call in run_twice(&run) {
+            sample.put(call);
+        }
     }
-    for seed in 1..=SCRIPTS {
+    for seed in 1..=SHEET_SCRIPTS {
         sample.store(MOST);
-        sample.random(seed);
+        sample.random_sheets(seed);
         sample.ask();
     }
     queries::queries(&mut sample);
+    edits::edits(&mut sample);
+    walks::walks(&mut sample);
+    texts::texts(&mut sample);
+    for calls in mixed_scripts() {
+        sample.store(MOST);
+        calls.into_iter().for_each(|it| sample.put_settled(it));
+        sample.all_records();
+    }
     sample.calls
 }
 
-/// The calls so far. A model runs beside them, so that the records that are there can be asked for.
-#[derive(Default)]
-struct Sample {
-    calls: Vec<Call>,
-    model: Model,
+/// The first calls of random scripts of all calls.
+fn mixed_scripts() -> impl Iterator<Item = Vec<Call>> {
+    let first_calls = |seed| first_bytes(script(seed, Profile::All), MIXED_BYTES);
+    let is_kept = |calls: &Vec<Call>| calls.len() >= MIXED_CALLS;
+    (1..).map(first_calls).filter(is_kept).take(MIXED_SCRIPTS)
 }
 
-impl Sample {
-    fn put(&mut self, call: Call) {
-        self.model.answer(&call);
-        self.calls.push(call);
+/// As many of the first calls as there is room for.
+fn first_bytes(calls: Vec<Call>, most: usize) -> Vec<Call> {
+    let mut bytes = 0;
+    let fits = |call: &Call| {
+        bytes += size(call);
+        bytes <= most
+    };
+    calls.into_iter().take_while(fits).collect()
+}
+
+impl Recorder {
+    /// Puts a call, unless its reply is free: where-is of what occurs more than once.
+    fn put_settled(&mut self, call: Call) {
+        match call {
+            Call::WhereIs { number, root } if self.occurrences(number, root) > 1 => {}
+            call => drop(self.put(call)),
+        }
     }
 
-    fn store(&mut self, [records, places, bytes]: [u32; 3]) {
-        self.put(Call::Store {
-            records,
-            places,
-            bytes,
-        });
+    /// How often a record occurs under another. Children have lower numbers.
+    fn occurrences(&self, number: u32, under: u32) -> usize {
+        let mut counts: Vec<usize> = Vec::new();
+        for record in 0..=under.min(self.record_count()) {
+            let children = self.model.children(record).unwrap_or_default();
+            let below = children.iter().map(|it| counts[*it as usize]);
+            let below = below.fold(0, usize::saturating_add);
+            counts.push(below.saturating_add(usize::from(record == number)));
+        }
+        counts.get(under as usize).copied().unwrap_or(0)
+    }
+
+    /// Runs a sheet on a store of its own, and answers its root.
+    fn tree_alone(&mut self, writer: SheetWriter) -> u32 {
+        self.store(MOST);
+        self.tree(writer)
     }
 
     fn files(&mut self, each: bool, (sheet, text): Files) {
@@ -103,15 +143,51 @@ impl Sample {
     }
 
     /// The calls of a random script that are short, up to so many bytes.
-    fn random(&mut self, seed: u64) {
+    fn random_sheets(&mut self, seed: u64) {
         let mut bytes = 0;
         for call in script(seed, Profile::Sheets) {
-            if bytes + size(&call) <= SCRIPT_BYTES {
+            if bytes + size(&call) <= SHEET_BYTES {
                 bytes += size(&call);
                 self.put(call);
             }
         }
     }
+}
+
+fn path(root: u32, indexes: &[u32]) -> Path {
+    Path {
+        root,
+        indexes: indexes.to_vec(),
+    }
+}
+
+/// Nodes in one another, the lowest childless: record 0 has height 1, the next 2, and on.
+fn chain(height: usize) -> SheetWriter {
+    let checkpoint = SheetWriter::default().checkpoint(0);
+    (0..height).fold(checkpoint, |it, _| it.start_at(1, 0).finish())
+}
+
+/// Document 01's case: an empty token before "BS".
+fn after_empty_token() -> SheetWriter {
+    let start = SheetWriter::default().start(1).token(5, b"");
+    let tokens = start.token(2, b"BS").token(3, b" ");
+    tokens.token(4, b"12").finish()
+}
+
+/// Empty tokens at both ends and in a row, childless nodes between them, kind 0.
+fn empties() -> SheetWriter {
+    let start = SheetWriter::default().start(0).token(2, b"").token(2, b"");
+    let childless = start.token(3, b"BS").start(0).finish();
+    let more = childless.token(4, b"x").start(5).finish();
+    more.token(0, b"").finish()
+}
+
+/// Nodes in nodes with a shared one among them, one at the end and one over an empty token.
+fn nested() -> SheetWriter {
+    let inner = |it: SheetWriter| it.start(2).token(3, b"a").token(4, b"").finish();
+    let first = inner(SheetWriter::default().start(1)).token(5, b"b");
+    let empty = first.start(0).token(4, b"").start(6).finish().finish();
+    inner(empty.start(7)).finish().finish()
 }
 
 fn tree_t() -> SheetWriter {
@@ -141,7 +217,7 @@ fn tokens(count: usize, kind: impl Fn(usize) -> u16) -> SheetWriter {
 }
 
 /// Refusal 1, and sheets that just pass it. A tree before and after shows that the store is kept.
-fn malformed(sample: &mut Sample) {
+fn malformed(sample: &mut Recorder) {
     let (sheet, text) = tree_t().files();
     let word = |at: usize, value: u32| {
         let mut sheet = sheet.clone();
@@ -173,7 +249,7 @@ fn malformed(sample: &mut Sample) {
 }
 
 /// Refusal 2, also where a higher one would apply, and what just passes it.
-fn bad_events(sample: &mut Sample) {
+fn bad_events(sample: &mut Recorder) {
     let (start, finish) = (Event::Start { kind: 1 }.words(), Event::Finish.words());
     let codes = [0, 6, 7, 0xffff].map(|code| (code << 16 | 1, 0));
     let fields = [
@@ -198,7 +274,7 @@ fn bad_events(sample: &mut Sample) {
 }
 
 /// Refusal 3, and bytes 127 and 128.
-fn bad_text(sample: &mut Sample) {
+fn bad_text(sample: &mut Recorder) {
     let token = |length| Event::Token { kind: 2, length }.words();
     let (start, finish) = (Event::Start { kind: 1 }.words(), Event::Finish.words());
     for length in [0, 2, 3, 4, u32::MAX] {
@@ -214,7 +290,7 @@ fn bad_text(sample: &mut Sample) {
 }
 
 /// Refusals 11, 12 and 13, and what the builder's rules let pass.
-fn builder_rules(sample: &mut Sample) {
+fn builder_rules(sample: &mut Recorder) {
     let new = SheetWriter::default;
     let a = |it: SheetWriter| it.token(2, b"a");
     sample.case(new());
@@ -250,7 +326,7 @@ fn builder_rules(sample: &mut Sample) {
 }
 
 /// Refusal 14: 64 and 65 open nodes, and heights 64 and 65.
-fn limits(sample: &mut Sample) {
+fn limits(sample: &mut Recorder) {
     let opened = |count| (0..count).fold(SheetWriter::default(), |it, _| it.start(1));
     let finished = |it: SheetWriter, count| (0..count).fold(it, |it, _| it.finish());
     sample.case(finished(opened(64), 64));
@@ -267,7 +343,7 @@ fn limits(sample: &mut Sample) {
 }
 
 /// Which elements share a record: three and four children, hash 0, equal hashes, kind 0.
-fn sharing(sample: &mut Sample) {
+fn sharing(sample: &mut Recorder) {
     let node = |it: SheetWriter, count| {
         let start = it.start(2);
         (0..count).fold(start, |it, _| it.token(3, b"a")).finish()
@@ -303,7 +379,7 @@ fn sharing(sample: &mut Sample) {
 
 /// Refusal 15: tree T in just its places, and with one record, child place or byte too few. What is
 /// found needs none.
-fn small_stores(sample: &mut Sample) {
+fn small_stores(sample: &mut Recorder) {
     for short in [
         [0, 0, 0],
         [1, 0, 0],
@@ -326,7 +402,7 @@ fn small_stores(sample: &mut Sample) {
 }
 
 /// The same at the most that a store uses, in places beyond that.
-fn full_stores(sample: &mut Sample) {
+fn full_stores(sample: &mut Recorder) {
     // 8,192 records: the second sheet's node is the 8,190th
     sample.store(MORE);
     sample.run_shown_briefly(tokens(4_094, |ordinal| ordinal as u16));
@@ -337,10 +413,23 @@ fn full_stores(sample: &mut Sample) {
     sample.run(pair(2));
     sample.run(SheetWriter::default().start(8).finish());
     sample.ask();
-    // 16,384 child places: four nodes of 4,094, and 8 more
+    // a childless node needs a record all the same, and the root itself none
+    let (node, new) = (4_094, Vec::new());
+    let (start, end) = (0, 4_094);
+    sample.put(Call::SpliceChildren {
+        node,
+        start,
+        end,
+        new,
+    });
+    let path = path(node, &[]);
+    sample.put(Call::ReplaceWith { new: node, path });
+    // 16,384 child places: a node of 4,094 and three copies, and 8 more
     sample.store(MORE);
-    for _ in 0..4 {
-        sample.run_shown_briefly(tokens(4_094, |_| 2));
+    sample.run_shown_briefly(tokens(4_094, |_| 2));
+    for _ in 0..3 {
+        let (node, index, new) = (1, 4_094, 0);
+        sample.put(Call::ReplaceChild { node, index, new });
     }
     sample.run(tokens(9, |_| 2));
     sample.run(tokens(8, |_| 2));
@@ -364,4 +453,7 @@ fn full_stores(sample: &mut Sample) {
             .finish(),
     );
     sample.ask();
+    // an edit needs no byte
+    let (node, index, new) = (2, 0, 1);
+    sample.put(Call::ReplaceChild { node, index, new });
 }

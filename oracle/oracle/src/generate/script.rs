@@ -1,7 +1,7 @@
 //! Random scripts. A model runs beside the writing, so that most calls are put to something.
 
 use super::{
-    sheets::{deep_or_wide_sheet, random_sheet, varied, Files},
+    sheets::{chain, deep_or_wide_sheet, random_sheet, varied, Files},
     Profile, Random,
 };
 use crate::{
@@ -12,6 +12,12 @@ use crate::{
 
 /// Room left for the largest call.
 const ENOUGH_BYTES: usize = MAX_BYTES - 150_000;
+
+/// The same with a call for each of 8,192 records, and for one that is not there.
+const ENOUGH_BEFORE_RECORDS: usize = ENOUGH_BYTES - 12 * 8_193;
+
+/// The longest run, in bytes, that is put just to fill a store.
+const SHORT_RUN: usize = 4_000;
 
 pub struct Writer {
     pub random: Random,
@@ -34,8 +40,15 @@ pub fn script(seed: u64, profile: Profile) -> Vec<Call> {
     if writer.random.chance(30) {
         writer.store();
     }
-    while writer.calls.len() < length && writer.bytes < ENOUGH_BYTES {
+    let enough = match profile {
+        Profile::All => ENOUGH_BEFORE_RECORDS,
+        _ => ENOUGH_BYTES,
+    };
+    while writer.calls.len() < length && writer.bytes < enough {
         writer.activity(profile);
+    }
+    if profile == Profile::All {
+        writer.all_records();
     }
     writer.calls
 }
@@ -60,29 +73,79 @@ impl Writer {
                 false => self.run(),
             };
         }
-        if is_empty || profile == Profile::Sheets || first < 25 {
+        if is_empty {
             return self.run();
         }
-        if profile == Profile::Queries {
-            return match self.random.below(5) {
-                0 | 1 => self.steps(),
-                2 | 3 => self.offsets(),
-                _ => self.identities(),
-            };
+        match profile {
+            Profile::Sheets => self.run(),
+            Profile::Queries | Profile::Reading if first < 25 => self.run(),
+            Profile::Queries => self.query(),
+            Profile::Reading => self.reading(),
+            Profile::All => match first {
+                0..=11 => self.run(),
+                12 | 13 => self.run_deep_or_wide(),
+                14..=16 => self.little_room(),
+                17..=56 => self.edit(),
+                57 | 58 => self.grow(),
+                _ => self.reading(),
+            },
         }
-        if profile == Profile::All && first < 50 {
-            return match self.random.chance(4) {
-                true => self.grow(),
-                false => self.edit(),
-            };
+    }
+
+    fn query(&mut self) {
+        match self.random.below(5) {
+            0 | 1 => self.steps(),
+            2 | 3 => self.offsets(),
+            _ => self.identities(),
         }
-        match self.random.below(10) {
+    }
+
+    /// A call that reads, or some of a sort.
+    fn reading(&mut self) {
+        match self.random.below(20) {
             0..=2 => self.steps(),
-            3 | 4 => self.offsets(),
-            5 => self.identities(),
-            6 => self.walk(),
-            7 | 8 => self.text(),
+            3..=5 => self.offsets(),
+            6..=8 => self.identities(),
+            9..=12 => self.walk(),
+            13..=18 => self.text(),
             _ => self.records(),
+        }
+    }
+
+    /// Every record, and one that is not there.
+    fn all_records(&mut self) {
+        for number in 0..=self.model.counts().records as u32 {
+            self.put(Call::Record { number });
+        }
+    }
+
+    /// A sheet in a store that has little more room than it needs, then edits.
+    fn little_room(&mut self) {
+        let (sheet, text) = match self.random.chance(40) {
+            true => chain(&mut self.random).files(),
+            false => random_sheet(&mut self.random),
+        };
+        let each = self.random.chance(50);
+        let run = Call::Run { each, sheet, text };
+        let mut alone = Model::default();
+        alone.answer(&run);
+        let needed = alone.counts();
+        if needed.records == 0 || size(&run) > SHORT_RUN {
+            return;
+        }
+        let mut with_more = |needed: usize, most: usize| (needed + self.random.below(most)) as u32;
+        let (records, places) = (with_more(needed.records, 5), with_more(needed.places, 16));
+        self.put(Call::Store {
+            records,
+            places,
+            bytes: needed.bytes as u32,
+        });
+        self.put(run);
+        for _ in 0..self.random.between(2, 8) {
+            self.edit();
+        }
+        if self.random.chance(50) {
+            self.all_records();
         }
     }
 

@@ -147,7 +147,7 @@ fn bushy_event(random: &mut Random, writer: SheetWriter, lengths: &mut Lengths) 
 }
 
 /// Nodes in one another, near the limits of open nodes and height.
-fn chain(random: &mut Random) -> SheetWriter {
+pub fn chain(random: &mut Random) -> SheetWriter {
     let depth = *random.pick(&[3, 20, 62, 63, 64, 65, 66]);
     let kind = kind(random);
     let mut writer = SheetWriter::default().checkpoint(0);

@@ -5,6 +5,7 @@ use crate::{
     reply::{Element, Refusal},
     script::Path,
 };
+use std::ops::Range;
 
 /// A path has at most this many indexes.
 const MAX_DEPTH: usize = 64;
@@ -87,8 +88,9 @@ impl<'a> Cursor<'a> {
             .ok_or(Refusal::NO_SUCH_ELEMENT)
     }
 
-    pub fn token_text(&self) -> Option<&'a [u8]> {
-        self.store.token_text(self.record())
+    /// Where a token's bytes stand in the store's text; none of a node.
+    pub fn token_part(&self) -> Option<Range<usize>> {
+        self.store.token_part(self.record())
     }
 
     pub fn child_count(&self) -> usize {

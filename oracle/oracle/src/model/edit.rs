@@ -5,7 +5,7 @@ use super::{
     store::{measured_node, NewNode, Record, Store},
 };
 use crate::{
-    reply::{Counts, Refusal},
+    reply::{Counts, Maker, Refusal},
     script::{Call, Path},
 };
 
@@ -43,7 +43,7 @@ fn replace_child(store: &mut Store, number: u32, index: u32, new: u32) -> Result
         *child = new;
     }
     let made = store.new_node(kind, children)?;
-    store.make(made)
+    store.make(made, Maker::Edit)
 }
 
 fn splice(
@@ -63,7 +63,7 @@ fn splice(
     }
     let spliced = [&children[..start], new, &children[end..]].concat();
     let made = store.new_node(kind, spliced)?;
-    store.make(made)
+    store.make(made, Maker::Edit)
 }
 
 /// Makes a record for each ancestor, the lowest first, all or none.
@@ -82,7 +82,7 @@ fn replace_with(store: &mut Store, new: u32, path: &Path) -> Result<u32, Refusal
     })?;
     let mut root = new;
     for ancestor in ancestors {
-        root = store.make(ancestor)?;
+        root = store.make(ancestor, Maker::Edit)?;
     }
     Ok(root)
 }

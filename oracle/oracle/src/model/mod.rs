@@ -12,7 +12,7 @@ mod walk;
 
 use crate::{
     reply::{Counts, Refusal, Reply},
-    script::{Call, Path, SLOTS},
+    script::{Call, Group, Path, SLOTS},
 };
 use cursor::Cursor;
 use store::Store;
@@ -42,31 +42,40 @@ impl Model {
         }
     }
 
-    #[rustfmt::skip]
     pub fn answer(&mut self, call: &Call) -> Reply {
-        match call {
-            Call::Store { records, places, bytes } => {
-                *self = Model::with_capacity(Counts {
-                    records: *records as usize,
-                    places: *places as usize,
-                    bytes: *bytes as usize,
-                });
-                Reply::Ok
-            }
-            Call::Run { each, sheet, text } => {
-                Reply::Run(run::run(&mut self.store, sheet, text, *each))
-            }
-            Call::ReplaceChild { .. } | Call::InsertChild { .. } | Call::RemoveChild { .. }
-            | Call::SpliceChildren { .. } | Call::ReplaceWith { .. } => self.edit(call),
-            Call::WalkBegin { .. } | Call::WalkNext { .. } | Call::WalkSkip { .. } => self.walk(call),
-            Call::TextOf { .. } | Call::TextSlice { .. } | Call::TextLength { .. }
-            | Call::ChunkBegin { .. } | Call::ChunkNext { .. } | Call::TextContains { .. }
-            | Call::TextFind { .. } | Call::TextCharAt { .. } | Call::TextEqual { .. } => {
-                self.text(call)
-            }
-            Call::Unknown { .. } => Reply::NotOffered,
-            _ => self.read(call).into(),
+        match call.group() {
+            Group::Store => self.renew(call),
+            Group::Run => self.run(call),
+            Group::Edit => self.edit(call),
+            Group::Walk => self.walk(call),
+            Group::Text => self.text(call),
+            Group::Query | Group::Record => self.read(call).into(),
+            Group::Unknown => Reply::NotOffered,
         }
+    }
+
+    fn renew(&mut self, call: &Call) -> Reply {
+        let Call::Store {
+            records,
+            places,
+            bytes,
+        } = call
+        else {
+            unreachable!("not a call for a store")
+        };
+        *self = Model::with_capacity(Counts {
+            records: *records as usize,
+            places: *places as usize,
+            bytes: *bytes as usize,
+        });
+        Reply::Ok
+    }
+
+    fn run(&mut self, call: &Call) -> Reply {
+        let Call::Run { each, sheet, text } = call else {
+            unreachable!("not a run")
+        };
+        Reply::Run(run::run(&mut self.store, sheet, text, *each))
     }
 
     fn edit(&mut self, call: &Call) -> Reply {
@@ -92,8 +101,9 @@ impl Model {
                 Reply::flag(cursor(left)?.is_same_element(&cursor(right)?))
             }
             Call::WhereIs { number, root } => query::where_is(&self.store, *number, *root)?,
-            Call::Element { number } => self.store.get(*number)?.described(),
+            Call::Element { number } => self.store.get(*number)?.measured(),
             Call::Mark { number } => Reply::Mark(self.store.get(*number)?.hash),
+            Call::Record { number } => self.store.shown(self.store.get(*number)?),
             _ => unreachable!("not a reading call"),
         })
     }
@@ -131,6 +141,10 @@ impl Model {
 
     pub fn counts(&self) -> Counts {
         self.store.counts()
+    }
+
+    pub fn has_walk(&self, slot: usize) -> bool {
+        self.walks[slot].is_some()
     }
 
     /// The length of the text in a slot.

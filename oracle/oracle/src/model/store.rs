@@ -1,8 +1,8 @@
 //! The store: records in the order of their numbers, and which of them events may find.
 
 use super::hash;
-use crate::reply::{Counts, Refusal, Reply};
-use std::collections::HashMap;
+use crate::reply::{Counts, Maker, Refusal, Reply};
+use std::{collections::HashMap, ops::Range};
 
 /// The most that a store uses of what is lent to it.
 pub const MOST: Counts = Counts {
@@ -20,8 +20,12 @@ const MAX_LENGTH: u64 = u32::MAX as u64;
 pub enum Content {
     /// Where the token's bytes begin in the store's text.
     Token { first: usize },
-    /// Where the node's children begin in the child places, and how many there are.
-    Node { first: usize, count: usize },
+    /// Where the node's children begin in the child places, how many there are, and what made it.
+    Node {
+        first: usize,
+        count: usize,
+        maker: Maker,
+    },
 }
 
 #[derive(Debug, Clone)]
@@ -39,12 +43,12 @@ impl Record {
         matches!(self.content, Content::Node { .. })
     }
 
-    pub fn described(&self) -> Reply {
+    pub fn measured(&self) -> Reply {
         let children = match self.content {
             Content::Token { .. } => 0,
             Content::Node { count, .. } => count as u32,
         };
-        Reply::Record {
+        Reply::Measured {
             is_node: self.is_node(),
             kind: self.kind,
             length: self.length,
@@ -145,14 +149,40 @@ impl Store {
     pub fn children(&self, record: &Record) -> Option<&[u32]> {
         match record.content {
             Content::Token { .. } => None,
-            Content::Node { first, count } => Some(&self.places[first..first + count]),
+            Content::Node { first, count, .. } => Some(&self.places[first..first + count]),
         }
     }
 
     pub fn token_text(&self, record: &Record) -> Option<&[u8]> {
+        Some(self.text_part(self.token_part(record)?))
+    }
+
+    /// Where a token's bytes stand in the store's text.
+    pub fn token_part(&self, record: &Record) -> Option<Range<usize>> {
         match record.content {
-            Content::Token { first } => Some(&self.text[first..first + record.length as usize]),
+            Content::Token { first } => Some(first..first + record.length as usize),
             Content::Node { .. } => None,
+        }
+    }
+
+    /// A part of the store's text.
+    pub fn text_part(&self, part: Range<usize>) -> &[u8] {
+        &self.text[part]
+    }
+
+    /// A record as it stands: a token's kind and text, or a node's kind, maker and children.
+    pub fn shown(&self, record: &Record) -> Reply {
+        let kind = record.kind;
+        match record.content {
+            Content::Token { .. } => Reply::TokenRecord {
+                kind,
+                text: self.token_text(record).unwrap_or_default().to_vec(),
+            },
+            Content::Node { maker, .. } => Reply::NodeRecord {
+                kind,
+                maker,
+                children: self.children(record).unwrap_or_default().to_vec(),
+            },
         }
     }
 
@@ -204,13 +234,13 @@ impl Store {
         let new = self.new_node(kind, children.to_vec())?;
         let hashes: Vec<u64> = children.iter().map(|it| self.at(*it).hash).collect();
         if !hash::is_sharable(&hashes) {
-            return self.make(new);
+            return self.make(new, Maker::Event);
         }
         let key = Key::Node(kind, children.to_vec());
         if let Some(number) = self.interned.get(&key) {
             return Ok(*number);
         }
-        let number = self.make(new)?;
+        let number = self.make(new, Maker::Event)?;
         self.interned.insert(key, number);
         Ok(number)
     }
@@ -222,7 +252,7 @@ impl Store {
     }
 
     /// Makes the record of a new node, if there is room.
-    pub fn make(&mut self, node: NewNode) -> Result<u32, Refusal> {
+    pub fn make(&mut self, node: NewNode, maker: Maker) -> Result<u32, Refusal> {
         self.room(Counts {
             records: 1,
             places: node.children.len(),
@@ -231,6 +261,7 @@ impl Store {
         let content = Content::Node {
             first: self.places.len(),
             count: node.children.len(),
+            maker,
         };
         self.places.extend_from_slice(&node.children);
         Ok(self.push(Record {

@@ -5,9 +5,10 @@ use crate::{
     reply::{Refusal, Reply},
     script::{Call, Path},
 };
+use std::ops::Range;
 
 /// A part of the store's text.
-type Chunk = Vec<u8>;
+type Chunk = Range<usize>;
 
 #[derive(Debug, Clone)]
 pub struct Text {
@@ -125,7 +126,7 @@ impl Text {
         match self.chunks(store).get(given).cloned() {
             Some(chunk) => {
                 self.given += 1;
-                Reply::Chunk(chunk)
+                Reply::Chunk(store.text_part(chunk).to_vec())
             }
             None => Reply::Ended,
         }
@@ -142,7 +143,9 @@ impl Text {
     }
 
     fn bytes(&mut self, store: &Store) -> Vec<u8> {
-        self.chunks(store).concat()
+        let chunks = self.chunks(store).iter();
+        let parts: Vec<&[u8]> = chunks.map(|it| store.text_part(it.clone())).collect();
+        parts.concat()
     }
 
     fn find(&mut self, store: &Store, byte: u8) -> Option<u32> {
@@ -160,10 +163,10 @@ fn push_chunks(cursor: &Cursor, start: u32, end: u32, chunks: &mut Vec<Chunk>) {
     if cursor.end() < start || cursor.start() > end {
         return;
     }
-    if let Some(text) = cursor.token_text() {
+    if let Some(part) = cursor.token_part() {
         let from = start.max(cursor.start()) - cursor.start();
         let to = end.min(cursor.end()) - cursor.start();
-        chunks.push(text[from as usize..to as usize].to_vec());
+        chunks.push(part.start + from as usize..part.start + to as usize);
     }
     for child in cursor.children() {
         push_chunks(&child, start, end, chunks);

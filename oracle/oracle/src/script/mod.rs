@@ -70,18 +70,42 @@ impl Step {
     pub const FIRST_OP: u32 = 20;
 }
 
+/// What a call is about.
+#[derive(Debug, Clone, Copy, PartialEq, Eq, PartialOrd, Ord)]
+pub enum Group {
+    Store,
+    Run,
+    Edit,
+    /// Calls 20 to 38.
+    Query,
+    Walk,
+    Text,
+    /// Calls 60, 61 and 64.
+    Record,
+    Unknown,
+}
+
 impl Call {
-    /// Whether it is one of calls 20 to 38.
-    pub fn is_query(&self) -> bool {
-        matches!(
-            self,
-            Call::Step { .. }
-                | Call::TokenAtOffset { .. }
-                | Call::ChildOrTokenAtRange { .. }
-                | Call::CoveringElement { .. }
-                | Call::SameElement { .. }
-                | Call::WhereIs { .. }
-        )
+    #[rustfmt::skip]
+    pub fn group(&self) -> Group {
+        match self {
+            Call::Store { .. } => Group::Store,
+            Call::Run { .. } => Group::Run,
+            Call::ReplaceChild { .. } | Call::InsertChild { .. } | Call::RemoveChild { .. }
+            | Call::SpliceChildren { .. } | Call::ReplaceWith { .. } => Group::Edit,
+            Call::Step { .. } | Call::TokenAtOffset { .. } | Call::ChildOrTokenAtRange { .. }
+            | Call::CoveringElement { .. } | Call::SameElement { .. } | Call::WhereIs { .. } => {
+                Group::Query
+            }
+            Call::WalkBegin { .. } | Call::WalkNext { .. } | Call::WalkSkip { .. } => Group::Walk,
+            Call::TextOf { .. } | Call::TextSlice { .. } | Call::TextLength { .. }
+            | Call::ChunkBegin { .. } | Call::ChunkNext { .. } | Call::TextContains { .. }
+            | Call::TextFind { .. } | Call::TextCharAt { .. } | Call::TextEqual { .. } => {
+                Group::Text
+            }
+            Call::Element { .. } | Call::Mark { .. } | Call::Record { .. } => Group::Record,
+            Call::Unknown { .. } => Group::Unknown,
+        }
     }
 }
 
@@ -115,6 +139,7 @@ pub enum Call {
     TextCharAt { slot: usize, offset: u32 },
     TextEqual { left: usize, right: usize },
     Element { number: u32 },
+    Record { number: u32 },
     Mark { number: u32 },
     /// A call that this reader does not know.
     Unknown { op: u32, words: Vec<u32> },

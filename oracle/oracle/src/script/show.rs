@@ -1,12 +1,28 @@
 //! Calls in readable form, for reports.
 
-use super::{Call, Path, Step};
+use super::{Call, Group, Path, Step};
 use crate::sheet::Sheet;
 use std::fmt::{self, Display};
 
 impl Display for Path {
     fn fmt(&self, f: &mut fmt::Formatter<'_>) -> fmt::Result {
         write!(f, "root {} path {:?}", self.root, self.indexes)
+    }
+}
+
+impl Group {
+    /// For so many of them.
+    pub fn name(self) -> &'static str {
+        match self {
+            Group::Store => "stores",
+            Group::Run => "runs",
+            Group::Edit => "edits",
+            Group::Query => "queries",
+            Group::Walk => "calls of walks",
+            Group::Text => "calls of texts",
+            Group::Record => "calls of records",
+            Group::Unknown => "unknown calls",
+        }
     }
 }
 
@@ -63,6 +79,7 @@ impl Display for Call {
             Call::WhereIs { number, root } => write!(f, "where_is {number} root {root}"),
             Call::Element { number } => write!(f, "element {number}"),
             Call::Mark { number } => write!(f, "mark {number}"),
+            Call::Record { number } => write!(f, "record {number}"),
             Call::Unknown { op, words } => write!(f, "call number {op} with {words:?}"),
             _ => self.show_slot_call(f),
         }

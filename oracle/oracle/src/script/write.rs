@@ -57,6 +57,7 @@ fn words(call: &Call) -> (u32, Arguments) {
         Call::TextEqual { left, right } => (58, a.slot(*left).slot(*right)),
         Call::Element { number } => (60, a.word(*number)),
         Call::Mark { number } => (61, a.word(*number)),
+        Call::Record { number } => (64, a.word(*number)),
         Call::Unknown { op, words } => (*op, a.words(words)),
     }
 }

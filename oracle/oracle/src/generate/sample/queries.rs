@@ -1,11 +1,12 @@
-//! Queries of the stored sample. The path of a where-is is free, so one is asked only where there is at
-//! most one occurrence.
+//! Queries of the stored sample.
 
-use super::{super::all_queries, tokens, tree_t, Sample, MOST};
+use super::{
+    after_empty_token, empties, first_bytes, nested, path, texts, tokens, tree_t, walks, Recorder,
+    MOST,
+};
 use crate::{
-    generate::{script, Profile},
-    reply::Reply,
-    script::{size, Call, Path, Step},
+    generate::{exhaust::all_queries, script, Profile},
+    script::{Call, Path, Step},
     sheet::SheetWriter,
 };
 
@@ -13,9 +14,9 @@ use crate::{
 const SCRIPTS: u64 = 40;
 const SCRIPT_BYTES: usize = 1_000;
 
-pub fn queries(sample: &mut Sample) {
+pub fn queries(sample: &mut Recorder) {
     for writer in [tree_t(), after_empty_token(), empties(), nested()] {
-        let root = sample.tree(writer);
+        let root = sample.tree_alone(writer);
         sample.all(root);
     }
     nowhere(sample);
@@ -24,61 +25,13 @@ pub fn queries(sample: &mut Sample) {
     wide(sample);
     for seed in 1..=SCRIPTS {
         sample.store(MOST);
-        sample.random_queries(seed);
-    }
-}
-
-fn path(root: u32, indexes: &[u32]) -> Path {
-    Path {
-        root,
-        indexes: indexes.to_vec(),
-    }
-}
-
-impl Sample {
-    /// Runs a sheet on a store of its own, and answers its root.
-    fn tree(&mut self, writer: SheetWriter) -> u32 {
-        self.store(MOST);
-        self.more(writer)
-    }
-
-    /// The same on what is there.
-    fn more(&mut self, writer: SheetWriter) -> u32 {
-        let (sheet, text) = writer.files();
-        let each = true;
-        let run = Call::Run { each, sheet, text };
-        let Reply::Run(reply) = self.model.answer(&run) else {
-            unreachable!("a run's reply")
-        };
-        self.calls.push(run);
-        reply.outcome.expect("a tree")
-    }
-
-    /// Puts a query, unless its answer is free.
-    fn query(&mut self, call: Call) {
-        if let Call::WhereIs { number, root } = call {
-            if self.occurrences(number, root) > 1 {
-                return;
-            }
+        for call in first_bytes(script(seed, Profile::Queries), SCRIPT_BYTES) {
+            sample.put_settled(call);
         }
-        self.put(call);
     }
+}
 
-    /// How often a record occurs under another.
-    fn occurrences(&self, number: u32, under: u32) -> usize {
-        let children = self.model.children(under).unwrap_or_default();
-        let below: usize = children
-            .iter()
-            .map(|child| self.occurrences(number, *child))
-            .sum();
-        usize::from(number == under) + below
-    }
-
-    fn is_node(&self, path: &Path) -> bool {
-        let number = self.model.number_at(path);
-        number.is_some_and(|it| self.model.children(it).is_some())
-    }
-
+impl Recorder {
     /// All queries of a tree, but few of what is refused: ranges put to a token, paths that lead nowhere
     /// compared with each other.
     fn all(&mut self, root: u32) {
@@ -96,7 +49,7 @@ impl Sample {
                 _ => true,
             };
             if is_kept {
-                self.query(call);
+                self.put_settled(call);
             }
         }
     }
@@ -121,46 +74,11 @@ impl Sample {
         self.put(Call::TokenAtOffset { offset: start, path: path.clone() });
         self.put(Call::TokenAtOffset { offset: end, path: path.clone() });
     }
-
-    /// The first calls of a random script, as many as there is room for.
-    fn random_queries(&mut self, seed: u64) {
-        let mut bytes = 0;
-        for call in script(seed, Profile::Queries) {
-            bytes += size(&call);
-            if bytes > SCRIPT_BYTES {
-                return;
-            }
-            self.query(call);
-        }
-    }
-}
-
-/// Document 01's case: an empty token before "BS".
-fn after_empty_token() -> SheetWriter {
-    let start = SheetWriter::default().start(1).token(5, b"");
-    let tokens = start.token(2, b"BS").token(3, b" ");
-    tokens.token(4, b"12").finish()
-}
-
-/// Empty tokens at both ends and in a row, childless nodes between them, kind 0.
-fn empties() -> SheetWriter {
-    let start = SheetWriter::default().start(0).token(2, b"").token(2, b"");
-    let childless = start.token(3, b"BS").start(0).finish();
-    let more = childless.token(4, b"x").start(5).finish();
-    more.token(0, b"").finish()
-}
-
-/// Nodes in nodes with a shared one among them, one at the end and one over an empty token.
-fn nested() -> SheetWriter {
-    let inner = |it: SheetWriter| it.start(2).token(3, b"a").token(4, b"").finish();
-    let first = inner(SheetWriter::default().start(1)).token(5, b"b");
-    let empty = first.start(0).token(4, b"").start(6).finish().finish();
-    inner(empty.start(7)).finish().finish()
 }
 
 /// Refusal 4 of roots and indexes, and of a token where a node is wanted.
-fn nowhere(sample: &mut Sample) {
-    let root = sample.tree(tree_t());
+fn nowhere(sample: &mut Recorder) {
+    let root = sample.tree_alone(tree_t());
     let records = sample.model.counts().records as u32;
     for root in [0, records, u32::MAX] {
         for indexes in [&[][..], &[0], &[0, 0]] {
@@ -189,23 +107,23 @@ fn nowhere(sample: &mut Sample) {
     for number in [0, root, records, u32::MAX] {
         for under in [0, root, records, u32::MAX] {
             let root = under;
-            sample.query(Call::WhereIs { number, root });
+            sample.put_settled(Call::WhereIs { number, root });
         }
     }
     // a store without a record
     sample.store([0, 0, 0]);
     sample.steps(&path(0, &[]));
-    sample.query(Call::WhereIs { number: 0, root: 0 });
+    sample.put_settled(Call::WhereIs { number: 0, root: 0 });
 }
 
 /// One tree within another, and nodes that are spelled alike and share no record.
-fn two_roots(sample: &mut Sample) {
+fn two_roots(sample: &mut Recorder) {
     let inner = |it: SheetWriter| it.start(2).token(3, b"a").token(4, b"").finish();
-    let root = sample.tree(inner(SheetWriter::default()));
+    let root = sample.tree_alone(inner(SheetWriter::default()));
     let first = inner(SheetWriter::default().start(1)).token(5, b"");
-    let other = sample.more(inner(first).finish());
+    let other = sample.tree(inner(first).finish());
     let alike = |it: SheetWriter| (0..4).fold(it.start(6), |it, _| it.token(4, b"")).finish();
-    let third = sample.more(alike(alike(SheetWriter::default().start(1))).finish());
+    let third = sample.tree(alike(alike(SheetWriter::default().start(1))).finish());
     let paths = [
         path(root, &[]),
         path(root, &[0]),
@@ -228,17 +146,17 @@ fn two_roots(sample: &mut Sample) {
     }
     for number in 0..=sample.model.counts().records as u32 {
         for root in [root, other, third] {
-            sample.query(Call::WhereIs { number, root });
+            sample.put_settled(Call::WhereIs { number, root });
         }
     }
 }
 
 /// 64 nodes in one another, with and without tokens beside the chain: 64 indexes lead to a token.
-fn deep(sample: &mut Sample) {
+fn deep(sample: &mut Recorder) {
     let started = |it: SheetWriter, _| it.start(1).token(2, b"");
     let open = (0..64).fold(SheetWriter::default(), started);
     let closed = (0..63).fold(open.token(3, b"a"), |it, _| it.finish().token(4, b"b"));
-    let root = sample.tree(closed.finish());
+    let root = sample.tree_alone(closed.finish());
     let spine = vec![1; 64];
     for depth in [1, 32, 62, 63, 64] {
         sample.steps(&path(root, &spine[..depth]));
@@ -260,10 +178,10 @@ fn deep(sample: &mut Sample) {
         sample.same(&path(root, &[]), &long);
     }
     for number in 0..=sample.model.counts().records as u32 {
-        sample.query(Call::WhereIs { number, root });
+        sample.put_settled(Call::WhereIs { number, root });
     }
     let chain = (0..64).fold(SheetWriter::default(), |it, _| it.start(0));
-    let root = sample.tree((0..64).fold(chain, |it, _| it.finish()));
+    let root = sample.tree_alone((0..64).fold(chain, |it, _| it.finish()));
     for depth in [0, 62, 63, 64] {
         sample.steps(&path(root, &vec![0; depth]));
         sample.range(&path(root, &vec![0; depth]), 0, 0);
@@ -271,10 +189,10 @@ fn deep(sample: &mut Sample) {
 }
 
 /// A node over 4,000 children of which the last is a node.
-fn wide(sample: &mut Sample) {
+fn wide(sample: &mut Recorder) {
     let mut writer = tokens(3_999, |ordinal| ordinal as u16);
     writer.events.pop();
-    let root = sample.tree(writer.start(7).finish().finish());
+    let root = sample.tree_alone(writer.start(7).finish().finish());
     let whole = path(root, &[]);
     sample.steps(&whole);
     for index in [0, 1, 1_999, 3_998, 3_999, 4_000] {
@@ -284,6 +202,8 @@ fn wide(sample: &mut Sample) {
         sample.range(&whole, index, index.saturating_add(2));
     }
     for number in [0, 1_998, 3_998, 3_999, root] {
-        sample.query(Call::WhereIs { number, root });
+        sample.put_settled(Call::WhereIs { number, root });
     }
+    walks::along(sample, &whole);
+    texts::along(sample, &whole);
 }
