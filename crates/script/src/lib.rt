@@ -144,7 +144,9 @@ pub struct Taken {
     pub left: usize,
 }
 
-pub fn take_word(fd: i32, m: usize) -> Taken {
+pub fn take_word(fd: i32, m: usize) -> Taken
+    ensures { λ r. ⌜ r .value < 2 ^ 32 ⌝ }
+{
     if m == 0 {
         return Taken {
             ok: complain(b"a call's lengths do not fit its words"),
