@@ -12,12 +12,21 @@ use replies::show;
 use replies::slots;
 use script::Taken;
 
-// A reply; `name` stands before a number.
-fn put_reply(reply: Reply, name: &[u8]) {
+// What stands before a number.
+fn put_name(op: u32) {
+    match op {
+        52 => show::put(b"length"),
+        56 => show::put(b"at"),
+        _ => show::put(b"char"),
+    }
+}
+
+// The reply to call `op`.
+fn put_reply(reply: Reply, op: u32) {
     match reply {
         Reply::None => show::put(b"none\n"),
         Reply::Number(n) => {
-            show::put(name);
+            put_name(op);
             show::put_number(n);
             show::put(b"\n");
         }
@@ -37,7 +46,7 @@ fn put_to(
     slot: usize,
     it: Text,
     question: Question,
-    name: &[u8],
+    op: u32,
 )
     requires { ⌜ Valid (here records children text used) × (slot < 8) ⌝ }
 {
@@ -55,7 +64,7 @@ fn put_to(
         it.depth,
         question,
     );
-    put_reply(reply, name);
+    put_reply(reply, op);
 }
 
 // Whether the texts `it` and `its` of two slots are equal.
@@ -88,7 +97,7 @@ fn compare(
         it.depth,
         question,
     );
-    put_reply(reply, b"");
+    put_reply(reply, 58);
 }
 
 // Call 58: the word is another text's slot. Whether the script goes on, here and below.
@@ -169,21 +178,6 @@ pub fn answer(
         56 => Question::Find(it.start, it.end, x as u32),
         _ => Question::CharAt(it.start, it.end, x),
     };
-    let name: &[u8] = match op {
-        52 => b"length",
-        56 => b"at",
-        _ => b"char",
-    };
-    put_to(
-        records,
-        children,
-        text,
-        used,
-        paths,
-        slot,
-        it,
-        question,
-        name,
-    );
+    put_to(records, children, text, used, paths, slot, it, question, op);
     true
 }
