@@ -6,6 +6,7 @@ ghost use Prim.Native.Nat.{_<_};
 ghost use Rattle.green.specs.Store.{here};
 ghost use Rattle.green.specs.Valid.{Valid};
 use replies::elements;
+use replies::record;
 use replies::show;
 use script::Store;
 
@@ -18,6 +19,8 @@ fn answer(
     used: &mut [usize; 3],
     sheet: &mut [u8],
     source: &mut [u8],
+    slots: &mut [usize; 64],
+    paths: &mut [u32; 512],
     op: u32,
     m: usize,
 ) -> bool
@@ -26,8 +29,12 @@ fn answer(
 {
     match op {
         2 | 3 => run_replies::answer(fd, records, children, text, used, sheet, source, op, m),
+        10..=14 => edit_replies::answer(fd, records, children, text, used, op, m),
         20..=38 => query_replies::answer(fd, records, children, text, used, op, m),
+        40..=42 => walk_replies::answer(fd, records, children, text, used, slots, paths, op, m),
+        50..=58 => text_replies::answer(fd, records, children, text, used, slots, paths, op, m),
         60 | 61 => elements::answer(fd, records, children, text, used, op, m),
+        64 => record::answer(fd, records, children, text, used, m),
         _ => not_offered(fd, m),
     }
 }
@@ -77,7 +84,7 @@ fn next_store(fd: i32, m: usize, left: usize) -> After
     }
 }
 
-// The calls up to the next store, from an empty one. `words` of the longest script are left.
+// The calls up to the next store, from an empty one with empty slots. `words` of the longest script are left.
 fn answer_all(
     fd: i32,
     records: &mut [u64],
@@ -90,6 +97,8 @@ fn answer_all(
     ensures { λ r. ⌜ (r .more ≡ true → r .left < words) ⌝ }
 {
     let mut used = [0usize; 3];
+    let mut slots = [0usize; 64];
+    let mut paths = [0u32; 512];
     let mut left = words;
     loop {
         let head = script::read_head(fd, left);
@@ -108,6 +117,8 @@ fn answer_all(
             &mut used,
             sheet,
             source,
+            &mut slots,
+            &mut paths,
             head.op,
             head.m,
         ) {
