@@ -10,7 +10,31 @@ use replies::record;
 use replies::show;
 use script::Store;
 
-// Reads the `m` words of call `op`, and prints the reply. Whether the script goes on.
+// A call that only reads the store. Whether the script goes on, here and below.
+fn read(
+    fd: i32,
+    records: &[u64],
+    children: &[u64],
+    text: &[u8],
+    used: &[usize; 3],
+    slots: &mut [usize; 64],
+    paths: &mut [u32; 512],
+    op: u32,
+    m: usize,
+) -> bool
+    requires { ⌜ Valid (here records children text used) ⌝ }
+{
+    match op {
+        20..=38 => query_replies::answer(fd, records, children, text, used, op, m),
+        40..=42 => walk_replies::answer(fd, records, children, text, used, slots, paths, op, m),
+        50..=58 => text_replies::answer(fd, records, children, text, used, slots, paths, op, m),
+        60 | 61 => elements::answer(fd, records, children, text, used, op, m),
+        64 => record::answer(fd, records, children, text, used, m),
+        _ => not_offered(fd, m),
+    }
+}
+
+// Reads the `m` words of call `op`, and prints the reply.
 fn answer(
     fd: i32,
     records: &mut [u64],
@@ -30,12 +54,7 @@ fn answer(
     match op {
         2 | 3 => run_replies::answer(fd, records, children, text, used, sheet, source, op, m),
         10..=14 => edit_replies::answer(fd, records, children, text, used, op, m),
-        20..=38 => query_replies::answer(fd, records, children, text, used, op, m),
-        40..=42 => walk_replies::answer(fd, records, children, text, used, slots, paths, op, m),
-        50..=58 => text_replies::answer(fd, records, children, text, used, slots, paths, op, m),
-        60 | 61 => elements::answer(fd, records, children, text, used, op, m),
-        64 => record::answer(fd, records, children, text, used, m),
-        _ => not_offered(fd, m),
+        _ => read(fd, records, children, text, used, slots, paths, op, m),
     }
 }
 
