@@ -41,8 +41,6 @@ fn answer(
     children: &mut [u64],
     text: &mut [u8],
     used: &mut [usize; 3],
-    sheet: &mut [u8],
-    source: &mut [u8],
     slots: &mut [usize; 64],
     paths: &mut [u32; 512],
     op: u32,
@@ -52,7 +50,7 @@ fn answer(
     ensures { λ _. ⌜ Valid (here (records .exit) (children .exit) (text .exit) (used .exit)) ⌝ }
 {
     match op {
-        2 | 3 => run_replies::answer(fd, records, children, text, used, sheet, source, op, m),
+        2 | 3 => run_replies::answer(fd, records, children, text, used, op, m),
         10..=14 => edit_replies::answer(fd, records, children, text, used, op, m),
         _ => read(fd, records, children, text, used, slots, paths, op, m),
     }
@@ -109,8 +107,6 @@ fn answer_all(
     records: &mut [u64],
     children: &mut [u64],
     text: &mut [u8],
-    sheet: &mut [u8],
-    source: &mut [u8],
     words: usize,
 ) -> After
     ensures { λ r. ⌜ (r .more ≡ true → r .left < words) ⌝ }
@@ -134,8 +130,6 @@ fn answer_all(
             children,
             text,
             &mut used,
-            sheet,
-            source,
             &mut slots,
             &mut paths,
             head.op,
@@ -152,8 +146,6 @@ pub fn on_store(
     records: &mut [u64],
     children: &mut [u64],
     text: &mut [u8],
-    sheet: &mut [u8],
-    source: &mut [u8],
     asked: Store,
     words: usize,
 ) -> After
@@ -167,8 +159,6 @@ pub fn on_store(
         &mut records[..8 * r],
         &mut children[..c],
         &mut text[..t],
-        sheet,
-        source,
         words,
     )
 }

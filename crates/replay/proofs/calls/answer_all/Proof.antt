@@ -13,16 +13,34 @@ use Rattle.replay.proofs.calls.answer_all.Statement.{statement}
 use Rattle.replay.proofs.calls.answer_all.Tie as tie
 
 abbrev Inv-loop : tie.InvT-loop
-Inv-loop fd records₀ children₀ text₀ sheet₀ source₀ words used₀ slots₀ paths₀ left₀ records children text sheet source used slots paths left = Valid (store records children text used) × (left ≤ words) × (length records ≡ length records₀) × (length children ≡ length children₀) × (length text ≡ length text₀) × (length sheet ≡ length sheet₀) × (length source ≡ length source₀)
+Inv-loop fd records₀ children₀ text₀ words used₀ slots₀ paths₀ left₀ records children text used slots paths left = Valid (store records children text used) × (left ≤ words) × (length records ≡ length records₀) × (length children ≡ length children₀) × (length text ≡ length text₀)
 
 abbrev μ-loop : tie.MeasureT-loop
-μ-loop fd records₀ children₀ text₀ sheet₀ source₀ words used₀ slots₀ paths₀ left₀ records children text sheet source used slots paths left = left
+μ-loop fd records₀ children₀ text₀ words used₀ slots₀ paths₀ left₀ records children text used slots paths left = left
 
 loop-holds : tie.Need-loop-holds Inv-loop μ-loop
-loop-holds c = (empty-valid _ _ _, omega arith, refl, refl, refl, refl, refl)
+loop-holds c = (empty-valid _ _ _, omega arith, refl, refl, refl)
+
+same-length : tie.Need-same-length Inv-loop μ-loop
+same-length c = c .before .before .before .before .loop .inv .2
+
+same-length-2 : tie.Need-same-length-2 Inv-loop μ-loop
+same-length-2 c = c .before .before .before .before .loop .inv .3
+
+same-length-3 : tie.Need-same-length-3 Inv-loop μ-loop
+same-length-3 c = c .before .before .before .before .loop .inv .4
 
 returns : tie.Need-returns Inv-loop μ-loop
 returns c = stopped (c .over .ensures)
+
+same-length-4 : tie.Need-same-length-4 Inv-loop μ-loop
+same-length-4 c = c .before .before .before .before .before .before .loop .inv .2
+
+same-length-5 : tie.Need-same-length-5 Inv-loop μ-loop
+same-length-5 c = c .before .before .before .before .before .before .loop .inv .3
+
+same-length-6 : tie.Need-same-length-6 Inv-loop μ-loop
+same-length-6 c = c .before .before .before .before .before .before .loop .inv .4
 
 returns-2 : tie.Need-returns-2 Inv-loop μ-loop
 returns-2 c = same-fewer (c .next-store .ensures) (fewer-than (c .before .before .before .before .before .read-head .ensures) (c .before .before .before .if1 .left) (c .before .before .before .before .before .before .loop .inv .1))
@@ -31,10 +49,10 @@ returns-3 : tie.Need-returns-3 Inv-loop μ-loop
 returns-3 c = stopped (c .over2 .ensures)
 
 loop-less : tie.Need-loop-less Inv-loop μ-loop
-loop-less c = fewer (c .before .before .before .before .before .before .before .before .before .before .before .before .before .before .before .before .before .before .before .before .before .before .before .before .read-head .ensures) (c .before .before .before .before .before .before .before .before .before .before .before .before .before .before .before .before .before .before .before .before .before .before .if1 .left)
+loop-less c = fewer (c .before .before .before .before .before .before .before .before .before .before .before .before .before .before .before .before .before .before .read-head .ensures) (c .before .before .before .before .before .before .before .before .before .before .before .before .before .before .before .before .if1 .left)
 
 loop-again : tie.Need-loop-again Inv-loop μ-loop
-loop-again c = (c .before .before .before .before .before .before .before .before .before .before .before .answer .ensures, at-most (c .before .before .before .before .before .before .before .before .before .before .before .before .before .before .before .before .before .before .before .before .before .before .before .before .read-head .ensures) (c .before .before .before .before .before .before .before .before .before .before .before .before .before .before .before .before .before .before .before .before .before .before .if1 .left) (c .before .before .before .before .before .before .before .before .before .before .before .before .before .before .before .before .before .before .before .before .before .before .before .before .before .loop .inv .1), search needs, search needs, search needs, search needs, search needs)
+loop-again c = (c .before .before .before .before .before .before .before .answer .ensures, at-most (c .before .before .before .before .before .before .before .before .before .before .before .before .before .before .before .before .before .before .read-head .ensures) (c .before .before .before .before .before .before .before .before .before .before .before .before .before .before .before .before .if1 .left) (c .before .before .before .before .before .before .before .before .before .before .before .before .before .before .before .before .before .before .before .loop .inv .1), search needs, search needs, search needs)
 
 pub answer-all-spec : {M : Type 1} → statement M
 answer-all-spec =
@@ -45,23 +63,17 @@ answer-all-spec =
     loop-holds
     (λ c κs. search needs)
     (λ c κs. search needs)
-    (λ c. search needs)
-    (λ c. search needs)
-    (λ c. search needs)
-    (λ c. search needs)
-    (λ c. search needs)
+    same-length
+    same-length-2
+    same-length-3
     returns
     (λ c κs. search needs)
-    (λ c. search needs)
-    (λ c. search needs)
-    (λ c. search needs)
-    (λ c. search needs)
-    (λ c. search needs)
+    same-length-4
+    same-length-5
+    same-length-6
     returns-2
     (λ c κs. search needs)
     (λ c κs. search needs)
-    (λ c. search needs)
-    (λ c. search needs)
     (λ c. search needs)
     (λ c. search needs)
     (λ c. search needs)
