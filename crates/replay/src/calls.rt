@@ -6,18 +6,43 @@ ghost use Prim.Native.Nat.{_<_};
 ghost use Rattle.green.specs.Store.{here};
 ghost use Rattle.green.specs.Valid.{Valid};
 use replies::elements;
+use replies::record;
 use replies::show;
 use script::Store;
 
-// Reads the `m` words of call `op`, and prints the reply. Whether the script goes on.
+// A call that only reads the store. Whether the script goes on, here and below.
+fn read(
+    fd: i32,
+    records: &[u64],
+    children: &[u64],
+    text: &[u8],
+    used: &[usize; 3],
+    slots: &mut [usize; 64],
+    paths: &mut [u32; 512],
+    op: u32,
+    m: usize,
+) -> bool
+    requires { ⌜ Valid (here records children text used) ⌝ }
+{
+    match op {
+        20..=38 => query_replies::answer(fd, records, children, text, used, op, m),
+        40..=42 => walk_replies::answer(fd, records, children, text, used, slots, paths, op, m),
+        50..=58 => text_replies::answer(fd, records, children, text, used, slots, paths, op, m),
+        60 | 61 => elements::answer(fd, records, children, text, used, op, m),
+        64 => record::answer(fd, records, children, text, used, m),
+        _ => not_offered(fd, m),
+    }
+}
+
+// Reads the `m` words of call `op`, and prints the reply.
 fn answer(
     fd: i32,
     records: &mut [u64],
     children: &mut [u64],
     text: &mut [u8],
     used: &mut [usize; 3],
-    sheet: &mut [u8],
-    source: &mut [u8],
+    slots: &mut [usize; 64],
+    paths: &mut [u32; 512],
     op: u32,
     m: usize,
 ) -> bool
@@ -25,10 +50,9 @@ fn answer(
     ensures { λ _. ⌜ Valid (here (records .exit) (children .exit) (text .exit) (used .exit)) ⌝ }
 {
     match op {
-        2 | 3 => run_replies::answer(fd, records, children, text, used, sheet, source, op, m),
-        20..=38 => query_replies::answer(fd, records, children, text, used, op, m),
-        60 | 61 => elements::answer(fd, records, children, text, used, op, m),
-        _ => not_offered(fd, m),
+        2 | 3 => run_replies::answer(fd, records, children, text, used, op, m),
+        10..=14 => edit_replies::answer(fd, records, children, text, used, op, m),
+        _ => read(fd, records, children, text, used, slots, paths, op, m),
     }
 }
 
@@ -77,19 +101,19 @@ fn next_store(fd: i32, m: usize, left: usize) -> After
     }
 }
 
-// The calls up to the next store, from an empty one. `words` of the longest script are left.
+// The calls up to the next store, from an empty one with empty slots. `words` of the longest script are left.
 fn answer_all(
     fd: i32,
     records: &mut [u64],
     children: &mut [u64],
     text: &mut [u8],
-    sheet: &mut [u8],
-    source: &mut [u8],
     words: usize,
 ) -> After
     ensures { λ r. ⌜ (r .more ≡ true → r .left < words) ⌝ }
 {
     let mut used = [0usize; 3];
+    let mut slots = [0usize; 64];
+    let mut paths = [0u32; 512];
     let mut left = words;
     loop {
         let head = script::read_head(fd, left);
@@ -106,8 +130,8 @@ fn answer_all(
             children,
             text,
             &mut used,
-            sheet,
-            source,
+            &mut slots,
+            &mut paths,
             head.op,
             head.m,
         ) {
@@ -122,8 +146,6 @@ pub fn on_store(
     records: &mut [u64],
     children: &mut [u64],
     text: &mut [u8],
-    sheet: &mut [u8],
-    source: &mut [u8],
     asked: Store,
     words: usize,
 ) -> After
@@ -137,8 +159,6 @@ pub fn on_store(
         &mut records[..8 * r],
         &mut children[..c],
         &mut text[..t],
-        sheet,
-        source,
         words,
     )
 }

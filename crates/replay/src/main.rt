@@ -3,18 +3,11 @@
 mod calls;
 
 // The script's stores in turn.
-fn stores(
-    fd: i32,
-    records: &mut [u64],
-    children: &mut [u64],
-    text: &mut [u8],
-    sheet: &mut [u8],
-    source: &mut [u8],
-) {
+fn stores(fd: i32, records: &mut [u64], children: &mut [u64], text: &mut [u8]) {
     let mut left = script::MOST_WORDS;
     let mut asked = script::first_store();
     loop {
-        let after = calls::on_store(fd, records, children, text, sheet, source, asked, left);
+        let after = calls::on_store(fd, records, children, text, asked, left);
         if !after.more {
             return;
         }
@@ -25,23 +18,14 @@ fn stores(
 }
 
 fn main() {
-    // somewhat more places than a store uses, and the longest sheet and text of a script in whole words
+    // somewhat more places than a store uses
     let mut records = [0u64; 65600];
     let mut children = [0u64; 16400];
     let mut text = [0u8; 65600];
-    let mut sheet = [0u8; 33000];
-    let mut source = [0u8; 65540];
     let fd = script::open();
     if fd < 0 {
         return;
     }
-    stores(
-        fd,
-        &mut records,
-        &mut children,
-        &mut text,
-        &mut sheet,
-        &mut source,
-    );
+    stores(fd, &mut records, &mut children, &mut text);
     libc::close(fd);
 }

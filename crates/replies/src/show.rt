@@ -7,6 +7,7 @@ use builder::state::Answer;
 use green::element::Summary;
 use libc::STDOUT_FILENO;
 use sheet_run::Ended;
+use utility_types::Made;
 use utility_types::Refusal;
 use utility_types::refusal_number;
 
@@ -39,6 +40,17 @@ pub fn add_number(line: &mut [u8], n: usize, number: u64) -> usize
     add(line, m, &digits[..k])
 }
 
+pub fn put(line: &[u8]) {
+    io::write_all(STDOUT_FILENO, line);
+}
+
+// Writes the first `n` bytes of a line.
+pub fn put_first(line: &[u8], n: usize)
+    requires { ⌜ n ≤ length (now line) ⌝ }
+{
+    put(&line[..n]);
+}
+
 // Adds the counts in use, ends the line and writes it.
 fn put_counts(line: &mut [u8], n: usize, used: &[usize; 3])
     requires { ⌜ n ≤ length (now line) ⌝ }
@@ -47,11 +59,7 @@ fn put_counts(line: &mut [u8], n: usize, used: &[usize; 3])
     let b = add_number(line, a, used[1] as u64);
     let c = add_number(line, b, used[2] as u64);
     let d = add(line, c, b"\n");
-    io::write_all(STDOUT_FILENO, &line[..d]);
-}
-
-pub fn put(line: &[u8]) {
-    io::write_all(STDOUT_FILENO, line);
+    put_first(line, d);
 }
 
 // An accepted event: what it yields, and the counts in use after it.
@@ -93,13 +101,33 @@ pub fn put_ended(ended: Ended, used: &[usize; 3]) {
     }
 }
 
+// What an edit made, or why it was turned down, and the counts in use after it.
+pub fn put_made(made: Made, used: &[usize; 3]) {
+    let mut space = [0u8; 128];
+    let line: &mut [u8] = &mut space;
+    match made {
+        Made::Number(number) => {
+            let a = add(line, 0, b"element");
+            let b = add_number(line, a, number as u64);
+            let c = add(line, b, b" store");
+            put_counts(line, c, used);
+        }
+        Made::Refused(why) => {
+            let a = add(line, 0, b"refused");
+            let b = add_number(line, a, refusal_number(why));
+            let c = add(line, b, b" store");
+            put_counts(line, c, used);
+        }
+    }
+}
+
 pub fn put_refused(why: Refusal) {
     put(b"refused ");
     io::print_decimal(STDOUT_FILENO, refusal_number(why));
     put(b"\n");
 }
 
-fn put_number(number: usize) {
+pub fn put_number(number: usize) {
     put(b" ");
     io::print_decimal(STDOUT_FILENO, number as u64);
 }

@@ -18,7 +18,7 @@ pub fn open() -> i32 {
 }
 
 // Says what is wrong with the script, and answers that nothing more can be read of it.
-fn complain(what: &[u8]) -> bool {
+pub fn complain(what: &[u8]) -> bool {
     io::write_all(STDERR_FILENO, b"calls: ");
     io::write_all(STDERR_FILENO, what);
     io::write_all(STDERR_FILENO, b"\n");
@@ -144,7 +144,9 @@ pub struct Taken {
     pub left: usize,
 }
 
-pub fn take_word(fd: i32, m: usize) -> Taken {
+pub fn take_word(fd: i32, m: usize) -> Taken
+    ensures { λ r. ⌜ r .value < 2 ^ 32 ⌝ }
+{
     if m == 0 {
         return Taken {
             ok: complain(b"a call's lengths do not fit its words"),
@@ -158,6 +160,48 @@ pub fn take_word(fd: i32, m: usize) -> Taken {
         value: word.value,
         left: m - 1,
     }
+}
+
+fn no_word() -> Taken
+    ensures { λ r. ⌜ r .value ≡ 0 ⌝ }
+{
+    Taken {
+        ok: false,
+        value: 0,
+        left: 0,
+    }
+}
+
+// The same of a word that must be less than `below`: a slot, a walk's mode or a byte.
+pub fn take_below(fd: i32, m: usize, below: usize) -> Taken
+    requires { ⌜ 0 < below ⌝ }
+    ensures { λ r. ⌜ r .value < below ⌝ }
+{
+    let word = take_word(fd, m);
+    if !word.ok {
+        return no_word();
+    }
+    if below <= word.value {
+        complain(b"there is no such slot, mode or byte");
+        return no_word();
+    }
+    word
+}
+
+// The next words of a call, put at the start of a lent place. Whether all came.
+pub fn read_words(fd: i32, into: &mut [u32], count: usize) -> bool
+    requires { ⌜ count ≤ length (now into) ⌝ }
+{
+    let mut i = 0;
+    while i < count {
+        let word = read_word(fd);
+        if !word.ok {
+            return false;
+        }
+        into[i] = word.value as u32;
+        i += 1;
+    }
+    true
 }
 
 // Whether a call has as many words as its arguments need.

@@ -6,7 +6,7 @@ use crate::complain;
 use crate::has_words;
 use crate::least;
 use crate::pass_over;
-use crate::read_word;
+use crate::read_words;
 use crate::take_word;
 
 // A path whose first 64 indexes were put into a lent place; `left` of the call's words come after it.
@@ -31,14 +31,8 @@ fn read_indexes(fd: i32, path: &mut [u32], count: usize) -> bool
     requires { ⌜ 64 ≤ length (now path) ⌝ }
 {
     let kept = least(count, 64);
-    let mut i = 0;
-    while i < kept {
-        let word = read_word(fd);
-        if !word.ok {
-            return false;
-        }
-        path[i] = word.value as u32;
-        i += 1;
+    if !read_words(fd, path, kept) {
+        return false;
     }
     pass_over(fd, count - kept)
 }

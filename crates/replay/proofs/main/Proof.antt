@@ -21,12 +21,6 @@ slice-aggregate-stores-2 c = sym (length-replicate {A = ℕ} _ 0)
 slice-aggregate-stores-3 : tie.Need-slice-aggregate-stores-3
 slice-aggregate-stores-3 c = sym (length-replicate {A = ℕ} _ 0)
 
-slice-aggregate-stores-4 : tie.Need-slice-aggregate-stores-4
-slice-aggregate-stores-4 c = sym (length-replicate {A = ℕ} _ 0)
-
-slice-aggregate-stores-5 : tie.Need-slice-aggregate-stores-5
-slice-aggregate-stores-5 c = sym (length-replicate {A = ℕ} _ 0)
-
 stores-requires : tie.Need-stores-requires
 stores-requires c κs = search needs
 
@@ -45,8 +39,6 @@ main-spec =
     slice-aggregate-stores
     slice-aggregate-stores-2
     slice-aggregate-stores-3
-    slice-aggregate-stores-4
-    slice-aggregate-stores-5
     stores-requires
     close-requires
     returns-2)

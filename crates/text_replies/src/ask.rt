@@ -1,0 +1,183 @@
+// What is asked of a text in a slot: calls 52 and 55 to 58.
+
+ghost use Prim.Native.Nat.{_^_, _<_};
+ghost use Rattle.green.specs.Store.{here};
+ghost use Rattle.green.specs.Valid.{Valid};
+use crate::slot;
+use crate::slot::Text;
+use query::question::Question;
+use query::reply::Reply;
+use query_replies::line;
+use replies::show;
+use replies::slots;
+use script::Taken;
+
+// What stands before a number.
+fn put_name(op: u32) {
+    match op {
+        52 => show::put(b"length"),
+        56 => show::put(b"at"),
+        _ => show::put(b"char"),
+    }
+}
+
+// The reply to call `op`.
+fn put_reply(reply: Reply, op: u32) {
+    match reply {
+        Reply::None => show::put(b"none\n"),
+        Reply::Number(n) => {
+            put_name(op);
+            show::put_number(n);
+            show::put(b"\n");
+        }
+        Reply::Truth(is_so) => line::put_truth(is_so),
+        Reply::Refused(why) => show::put_refused(why),
+        _ => show::put(b"-\n"),
+    }
+}
+
+// Puts a question to the text `it` of a slot.
+fn put_to(
+    records: &[u64],
+    children: &[u64],
+    text: &[u8],
+    used: &[usize; 3],
+    paths: &[u32; 512],
+    slot: usize,
+    it: Text,
+    question: Question,
+    op: u32,
+)
+    requires { ⌜ Valid (here records children text used) × (slot < 8) ⌝ }
+{
+    let mut path = [0u32; 64];
+    slots::copy_out(paths, slot, &mut path);
+    let mut other = [0u32; 64];
+    let reply = query::query(
+        records,
+        children,
+        text,
+        used,
+        it.root,
+        &mut path,
+        &mut other,
+        it.depth,
+        question,
+    );
+    put_reply(reply, op);
+}
+
+// Whether the texts `it` and `its` of two slots are equal.
+fn compare(
+    records: &[u64],
+    children: &[u64],
+    text: &[u8],
+    used: &[usize; 3],
+    paths: &[u32; 512],
+    slot: usize,
+    it: Text,
+    second: usize,
+    its: Text,
+)
+    requires { ⌜ Valid (here records children text used) × (slot < 8) × (second < 8) ⌝ }
+{
+    let mut path = [0u32; 64];
+    slots::copy_out(paths, slot, &mut path);
+    let mut other = [0u32; 64];
+    slots::copy_out(paths, second, &mut other);
+    let question = Question::EqualText(it.start, it.end, its.root, its.depth, its.start, its.end);
+    let reply = query::query(
+        records,
+        children,
+        text,
+        used,
+        it.root,
+        &mut path,
+        &mut other,
+        it.depth,
+        question,
+    );
+    put_reply(reply, 58);
+}
+
+// Call 58: the word is another text's slot. Whether the script goes on, here and below.
+fn equal(
+    fd: i32,
+    records: &[u64],
+    children: &[u64],
+    text: &[u8],
+    used: &[usize; 3],
+    slots: &[usize; 64],
+    paths: &[u32; 512],
+    slot: usize,
+    m: usize,
+) -> bool
+    requires { ⌜ Valid (here records children text used) × (slot < 8) ⌝ }
+{
+    let word = script::take_below(fd, m, 4);
+    if !word.ok || !script::has_words(word.left, 0) {
+        return false;
+    }
+    let second = word.value + 4;
+    let it = slot::read(slots, slot);
+    let its = slot::read(slots, second);
+    if !it.is_there || !its.is_there {
+        show::put(b"no text\n");
+        return true;
+    }
+    compare(records, children, text, used, paths, slot, it, second, its);
+    true
+}
+
+// What comes after the slot: nothing, a byte or an offset.
+fn read_argument(fd: i32, op: u32, m: usize) -> Taken
+    ensures { λ r. ⌜ r .value < 2 ^ 32 ⌝ }
+{
+    match op {
+        52 => Taken {
+            ok: true,
+            value: 0,
+            left: m,
+        },
+        57 => script::take_word(fd, m),
+        _ => script::take_below(fd, m, 256),
+    }
+}
+
+// Reads the words that are left of call `op`, and prints the reply.
+pub fn answer(
+    fd: i32,
+    records: &[u64],
+    children: &[u64],
+    text: &[u8],
+    used: &[usize; 3],
+    slots: &[usize; 64],
+    paths: &[u32; 512],
+    slot: usize,
+    op: u32,
+    m: usize,
+) -> bool
+    requires { ⌜ Valid (here records children text used) × (slot < 8) ⌝ }
+{
+    if op == 58 {
+        return equal(fd, records, children, text, used, slots, paths, slot, m);
+    }
+    let word = read_argument(fd, op, m);
+    if !word.ok || !script::has_words(word.left, 0) {
+        return false;
+    }
+    let it = slot::read(slots, slot);
+    if !it.is_there {
+        show::put(b"no text\n");
+        return true;
+    }
+    let x = word.value;
+    let question = match op {
+        52 => Question::TextLen(it.start, it.end),
+        55 => Question::Contains(it.start, it.end, x as u32),
+        56 => Question::Find(it.start, it.end, x as u32),
+        _ => Question::CharAt(it.start, it.end, x),
+    };
+    put_to(records, children, text, used, paths, slot, it, question, op);
+    true
+}

@@ -1,0 +1,216 @@
+// What `replay` answers to the texts of a script: calls 50 to 58. A text stays in its slot from call to call.
+
+ghost use Prim.Native.Nat.{_<_};
+ghost use Rattle.green.specs.Store.{here};
+ghost use Rattle.green.specs.Valid.{Valid};
+use query::question::Question;
+use query::reply::Reply;
+use replies::show;
+use replies::slots;
+use script::path;
+
+pub mod ask;
+pub mod chunk;
+pub mod slot;
+
+// Puts a text into a slot, or empties it; prints which. The text's path is in the slot already.
+fn keep(slots: &mut [usize; 64], slot: usize, reply: Reply, root: usize, depth: usize)
+    requires { ⌜ slot < 8 ⌝ }
+{
+    match reply {
+        Reply::Text(start, end) => {
+            slot::write(slots, slot, root, depth, start, end);
+            show::put(b"ok\n");
+        }
+        Reply::Refused(why) => {
+            slot::empty(slots, slot);
+            show::put_refused(why);
+        }
+        _ => show::put(b"-\n"),
+    }
+}
+
+// Call 50: the words are a path. Whether the script goes on, here and below.
+fn text_of(
+    fd: i32,
+    records: &[u64],
+    children: &[u64],
+    text: &[u8],
+    used: &[usize; 3],
+    slots: &mut [usize; 64],
+    paths: &mut [u32; 512],
+    slot: usize,
+    m: usize,
+) -> bool
+    requires { ⌜ Valid (here records children text used) × (slot < 8) ⌝ }
+{
+    let mut path = [0u32; 64];
+    let of = path::read_last_path(fd, &mut path, m);
+    if !of.ok {
+        return false;
+    }
+    slots::copy_in(paths, slot, &path);
+    let mut other = [0u32; 64];
+    let reply = query::query(
+        records,
+        children,
+        text,
+        used,
+        of.root,
+        &mut path,
+        &mut other,
+        of.depth,
+        Question::Text,
+    );
+    keep(slots, slot, reply, of.root, of.depth);
+    true
+}
+
+// The slice from one offset to another of the text in a slot, for slot `to`.
+fn put_slice(
+    records: &[u64],
+    children: &[u64],
+    text: &[u8],
+    used: &[usize; 3],
+    slots: &mut [usize; 64],
+    paths: &mut [u32; 512],
+    to: usize,
+    of: usize,
+    from: usize,
+    until: usize,
+)
+    requires { ⌜ Valid (here records children text used) × (to < 8) × (of < 8) ⌝ }
+{
+    let it = slot::read(slots, of);
+    if !it.is_there {
+        slot::empty(slots, to);
+        show::put(b"no text\n");
+        return;
+    }
+    let mut path = [0u32; 64];
+    slots::copy_out(paths, of, &mut path);
+    slots::copy_in(paths, to, &path);
+    let mut other = [0u32; 64];
+    let question = Question::Slice(it.start, it.end, from, until);
+    let reply = query::query(
+        records,
+        children,
+        text,
+        used,
+        it.root,
+        &mut path,
+        &mut other,
+        it.depth,
+        question,
+    );
+    keep(slots, to, reply, it.root, it.depth);
+}
+
+// Call 51: the words are a text's slot, a start and an end.
+fn slice(
+    fd: i32,
+    records: &[u64],
+    children: &[u64],
+    text: &[u8],
+    used: &[usize; 3],
+    slots: &mut [usize; 64],
+    paths: &mut [u32; 512],
+    to: usize,
+    m: usize,
+) -> bool
+    requires { ⌜ Valid (here records children text used) × (to < 8) ⌝ }
+{
+    let of = script::take_below(fd, m, 4);
+    if !of.ok {
+        return false;
+    }
+    let from = script::take_word(fd, of.left);
+    if !from.ok || !script::has_words(from.left, 1) {
+        return false;
+    }
+    let until = script::read_word(fd);
+    if !until.ok {
+        return false;
+    }
+    put_slice(
+        records,
+        children,
+        text,
+        used,
+        slots,
+        paths,
+        to,
+        of.value + 4,
+        from.value,
+        until.value,
+    );
+    true
+}
+
+// Reads the `m` words of call `op`, and prints the reply.
+pub fn answer(
+    fd: i32,
+    records: &[u64],
+    children: &[u64],
+    text: &[u8],
+    used: &[usize; 3],
+    slots: &mut [usize; 64],
+    paths: &mut [u32; 512],
+    op: u32,
+    m: usize,
+) -> bool
+    requires { ⌜ Valid (here records children text used) ⌝ }
+{
+    let word = script::take_below(fd, m, 4);
+    if !word.ok {
+        return false;
+    }
+    let slot = word.value + 4;
+    match op {
+        50 => text_of(
+            fd,
+            records,
+            children,
+            text,
+            used,
+            slots,
+            paths,
+            slot,
+            word.left,
+        ),
+        51 => slice(
+            fd,
+            records,
+            children,
+            text,
+            used,
+            slots,
+            paths,
+            slot,
+            word.left,
+        ),
+        53 | 54 => chunk::answer(
+            records,
+            children,
+            text,
+            used,
+            slots,
+            paths,
+            slot,
+            op,
+            word.left,
+        ),
+        _ => ask::answer(
+            fd,
+            records,
+            children,
+            text,
+            used,
+            slots,
+            paths,
+            slot,
+            op,
+            word.left,
+        ),
+    }
+}

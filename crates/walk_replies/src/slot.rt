@@ -1,0 +1,93 @@
+// A walk's slot: the first five of its words are what comes next, or 0 if it is empty, the root's number, whether tokens
+// count, and how many indexes lead to the walk's start and to what comes next.
+
+ghost use Prim.Native.Nat.{_≤_, _<_};
+use preorder::state::Coming;
+
+// The walk in a slot; with no walk there the rest is as of a new one.
+pub struct Walk {
+    pub is_there: bool,
+    pub root: usize,
+    pub tokens: bool,
+    pub start: usize,
+    pub coming: Coming,
+    pub depth: usize,
+}
+
+fn no_walk() -> Walk
+    ensures { λ r. ⌜ r .depth ≤ 64 ⌝ }
+{
+    Walk {
+        is_there: false,
+        root: 0,
+        tokens: false,
+        start: 0,
+        coming: Coming::First,
+        depth: 0,
+    }
+}
+
+fn coming_of(word: usize) -> Coming {
+    match word {
+        1 => Coming::First,
+        2 => Coming::Enter,
+        3 => Coming::Leave,
+        _ => Coming::Ended,
+    }
+}
+
+fn word_of(coming: Coming) -> usize {
+    match coming {
+        Coming::First => 1,
+        Coming::Enter => 2,
+        Coming::Leave => 3,
+        Coming::Ended => 4,
+    }
+}
+
+// No walk has more than 64 indexes.
+pub fn read(slots: &[usize; 64], slot: usize) -> Walk
+    requires { ⌜ slot < 8 ⌝ }
+    ensures { λ r. ⌜ r .depth ≤ 64 ⌝ }
+{
+    let at = 8 * slot;
+    let word = slots[at];
+    let depth = slots[at + 4];
+    if word == 0 || 64 < depth {
+        return no_walk();
+    }
+    let coming = coming_of(word);
+    Walk {
+        is_there: true,
+        root: slots[at + 1],
+        tokens: slots[at + 2] == 1,
+        start: slots[at + 3],
+        coming,
+        depth,
+    }
+}
+
+pub fn write(
+    slots: &mut [usize; 64],
+    slot: usize,
+    root: usize,
+    tokens: bool,
+    start: usize,
+    coming: Coming,
+    depth: usize,
+)
+    requires { ⌜ slot < 8 ⌝ }
+{
+    let at = 8 * slot;
+    slots[at] = word_of(coming);
+    slots[at + 1] = root;
+    slots[at + 2] = if tokens { 1 } else { 0 };
+    slots[at + 3] = start;
+    slots[at + 4] = depth;
+}
+
+pub fn empty(slots: &mut [usize; 64], slot: usize)
+    requires { ⌜ slot < 8 ⌝ }
+{
+    slots[8 * slot] = 0;
+}
