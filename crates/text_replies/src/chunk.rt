@@ -4,6 +4,7 @@ ghost use Prim.Native.Nat.{_<_};
 ghost use Rattle.green.specs.Store.{here};
 ghost use Rattle.green.specs.Valid.{Valid};
 use crate::slot;
+use crate::slot::Text;
 use replies::bytes;
 use replies::show;
 use replies::slots;
@@ -23,6 +24,90 @@ fn put_chunk(outcome: usize, chunk: &[u8]) {
     }
 }
 
+// The first chunk: a state that keeps no place.
+fn first(
+    records: &[u64],
+    children: &[u64],
+    text: &[u8],
+    used: &[usize; 3],
+    it: Text,
+    path: &[u32; 64],
+) -> usize
+    requires { ⌜ Valid (here records children text used) ⌝ }
+{
+    let mut given: usize = 0;
+    let mut place = [0u32; 64];
+    let mut kept: usize = 0;
+    let mut outcome: usize = 0;
+    let chunk = chunks::next_chunk(
+        records,
+        children,
+        text,
+        used,
+        it.root,
+        path,
+        it.depth,
+        it.start,
+        it.end,
+        &mut given,
+        &mut place,
+        &mut kept,
+        &mut outcome,
+    );
+    put_chunk(outcome, chunk);
+    given
+}
+
+// A chunk after `before` + 1 others: the one before it is found by the count, and it by the place that was kept then.
+fn further(
+    records: &[u64],
+    children: &[u64],
+    text: &[u8],
+    used: &[usize; 3],
+    it: Text,
+    path: &[u32; 64],
+    before: usize,
+) -> usize
+    requires { ⌜ Valid (here records children text used) ⌝ }
+{
+    let mut given = before;
+    let mut place = [0u32; 64];
+    let mut kept: usize = 0;
+    let mut outcome: usize = 0;
+    chunks::next_chunk(
+        records,
+        children,
+        text,
+        used,
+        it.root,
+        path,
+        it.depth,
+        it.start,
+        it.end,
+        &mut given,
+        &mut place,
+        &mut kept,
+        &mut outcome,
+    );
+    let chunk = chunks::next_chunk(
+        records,
+        children,
+        text,
+        used,
+        it.root,
+        path,
+        it.depth,
+        it.start,
+        it.end,
+        &mut given,
+        &mut place,
+        &mut kept,
+        &mut outcome,
+    );
+    put_chunk(outcome, chunk);
+    given
+}
+
 fn next(
     records: &[u64],
     children: &[u64],
@@ -37,22 +122,12 @@ fn next(
     let it = slot::read(slots, slot);
     let mut path = [0u32; 64];
     slots::copy_out(paths, slot, &mut path);
-    let mut given = it.given;
-    let mut outcome: usize = 0;
-    let chunk = chunks::chunk_at(
-        records,
-        children,
-        text,
-        used,
-        it.root,
-        &path,
-        it.depth,
-        it.start,
-        it.end,
-        &mut given,
-        &mut outcome,
-    );
-    put_chunk(outcome, chunk);
+    if it.given == 0 {
+        let given = first(records, children, text, used, it, &path);
+        slot::set_given(slots, slot, given);
+        return;
+    }
+    let given = further(records, children, text, used, it, &path, it.given - 1);
     slot::set_given(slots, slot, given);
 }
 
