@@ -13,7 +13,8 @@ pub mod ask;
 pub mod chunk;
 pub mod slot;
 
-// Puts a text into a slot, or empties it; prints which. The text's path is in the slot already.
+// Puts a text into a slot, or empties it if there is none; prints which. No other reply comes. The text's path is in the
+// slot already.
 fn keep(slots: &mut [usize; 64], slot: usize, reply: Reply, root: usize, depth: usize)
     requires { ⌜ slot < 8 ⌝ }
 {
@@ -166,40 +167,11 @@ pub fn answer(
         return false;
     }
     let slot = word.value + 4;
+    let left = word.left;
     match op {
-        50 => text_of(
-            fd,
-            records,
-            children,
-            text,
-            used,
-            slots,
-            paths,
-            slot,
-            word.left,
-        ),
-        51 => slice(
-            fd,
-            records,
-            children,
-            text,
-            used,
-            slots,
-            paths,
-            slot,
-            word.left,
-        ),
-        53 | 54 => chunk::answer(
-            records,
-            children,
-            text,
-            used,
-            slots,
-            paths,
-            slot,
-            op,
-            word.left,
-        ),
+        50 => text_of(fd, records, children, text, used, slots, paths, slot, left),
+        51 => slice(fd, records, children, text, used, slots, paths, slot, left),
+        53 | 54 => chunk::answer(records, children, text, used, slots, paths, slot, op, left),
         _ => ask::answer(
             fd,
             records,
@@ -210,7 +182,7 @@ pub fn answer(
             paths,
             slot,
             op,
-            word.left,
+            left,
         ),
     }
 }

@@ -17,6 +17,25 @@ use utility_types::WalkEvent;
 
 pub mod slot;
 
+// Puts a walk that has begun into a slot, or empties it if none has; prints which. No other reply comes. The path of the
+// walk's start is in the slot already.
+fn keep(slots: &mut [usize; 64], slot: usize, reply: Reply, root: usize, tokens: bool, start: usize)
+    requires { ⌜ slot < 4 ⌝ }
+{
+    match reply {
+        Reply::Walk(ahead) => {
+            let coming = ahead.coming;
+            slot::write(slots, slot, root, tokens, start, coming, ahead.depth);
+            show::put(b"ok\n");
+        }
+        Reply::Refused(why) => {
+            slot::empty(slots, slot);
+            show::put_refused(why);
+        }
+        _ => show::put(b"-\n"),
+    }
+}
+
 // The words are a mode and a path. Whether the script goes on.
 fn begin(
     fd: i32,
@@ -54,18 +73,7 @@ fn begin(
         of.depth,
         Question::Walk(tokens),
     );
-    match reply {
-        Reply::Walk(ahead) => {
-            let coming = ahead.coming;
-            slot::write(slots, slot, of.root, tokens, of.depth, coming, ahead.depth);
-            show::put(b"ok\n");
-        }
-        Reply::Refused(why) => {
-            slot::empty(slots, slot);
-            show::put_refused(why);
-        }
-        _ => show::put(b"-\n"),
-    }
+    keep(slots, slot, reply, of.root, tokens, of.depth);
     true
 }
 
@@ -169,20 +177,11 @@ pub fn answer(
         return false;
     }
     let slot = word.value;
+    let left = word.left;
     if op == 40 {
-        return begin(
-            fd,
-            records,
-            children,
-            text,
-            used,
-            slots,
-            paths,
-            slot,
-            word.left,
-        );
+        return begin(fd, records, children, text, used, slots, paths, slot, left);
     }
-    if !script::has_words(word.left, 0) {
+    if !script::has_words(left, 0) {
         return false;
     }
     if op == 41 {
