@@ -26,6 +26,16 @@ here r c t u = store (now r) (now c) (now t) (now u)
 abbrev pub entered : {A B C D : Type 0} → Both (RefT (List ℕ)) A → Both (RefT (List ℕ)) B → Both (RefT (List ℕ)) C → Both (RefT (List ℕ)) D → Store
 entered r c t u = here (r .entry) (c .entry) (t .entry) (u .entry)
 
+-- and both: as it was called, and as it returns
+abbrev pub Lists : Type 0
+Lists = Both (RefT (List ℕ)) (RefT (List ℕ))
+
+abbrev pub both : {A : Type 0} → A → A → Both A A
+both a a′ = record { entry = a; exit = a′ }
+
+abbrev pub stores : Lists → Lists → Lists → Lists → Both Store Store
+stores r c t u = both (here (r .entry) (c .entry) (t .entry) (u .entry)) (here (r .exit) (c .exit) (t .exit) (u .exit))
+
 abbrev pub lent : Store → Lent
 lent s = record { records = length (s .records) / 8; children = length (s .children); text = length (s .text) }
 

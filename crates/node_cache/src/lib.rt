@@ -4,9 +4,9 @@
 ghost use mathlib.Core.Bool.{true};
 ghost use Rattle.definitions.specs.Entry.{tokenEntry, nodeEntry};
 ghost use Rattle.definitions.specs.NodeCache.{share};
-ghost use Rattle.green.specs.Store.{here, entered, entries, lent};
+ghost use Rattle.green.specs.Store.{here, entries, stores};
 ghost use Rattle.green.specs.Valid.{AllEvents, Valid};
-ghost use Rattle.green_new.specs.Done.{Done};
+ghost use Rattle.green_new.specs.Done.{Does};
 
 pub mod hash;
 pub mod search;
@@ -25,7 +25,7 @@ pub fn token(
     src: &[u8],
 ) -> Made
     requires { ⌜ Valid (here records children text used) ⌝ }
-    ensures { λ r. ⌜ Done (entered records children text used) (here (records .exit) (children .entry) (text .exit) (used .exit)) (share (lent (entered records children text used)) (entries (entered records children text used)) (tokenEntry (kind .0) (now (src .entry)))) r ⌝ }
+    ensures { λ r. ⌜ Does (stores records children text used) (λ l es. share l es (tokenEntry (kind .0) (now (src .entry)))) r ⌝ }
 {
     let hash = fx_hash::token_hash(kind, src);
     let found = search::find_token(records, children, text, used, kind, src, hash);
@@ -48,7 +48,7 @@ pub fn node(
 ) -> Made
     requires { ⌜ Valid (here records children text used) ⌝ }
     requires { ⌜ AllEvents (entries (here records children text used)) (now numbers) ⌝ }
-    ensures { λ r. ⌜ Done (entered records children text used) (here (records .exit) (children .exit) (text .entry) (used .exit)) (share (lent (entered records children text used)) (entries (entered records children text used)) (nodeEntry true (entries (entered records children text used)) (kind .0) (now (numbers .entry)))) r ⌝ }
+    ensures { λ r. ⌜ Does (stores records children text used) (λ l es. share l es (nodeEntry true es (kind .0) (now (numbers .entry)))) r ⌝ }
 {
     let hashed = hash::hash_node(records, children, text, used, kind, numbers);
     if hashed.is_sharable {
