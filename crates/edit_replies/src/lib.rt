@@ -2,6 +2,7 @@
 
 ghost use Rattle.green.specs.Store.{here};
 ghost use Rattle.green.specs.Valid.{Valid};
+use green::Counts;
 use replies::show;
 use script::path;
 
@@ -11,7 +12,7 @@ fn of_child(
     records: &mut [u64],
     children: &mut [u64],
     text: &[u8],
-    used: &mut [usize; 3],
+    used: &mut Counts,
     op: u32,
     m: usize,
 ) -> bool
@@ -58,7 +59,7 @@ fn put_child(
     records: &mut [u64],
     children: &mut [u64],
     text: &[u8],
-    used: &mut [usize; 3],
+    used: &mut Counts,
     op: u32,
     n: usize,
     i: usize,
@@ -82,7 +83,7 @@ fn splice(
     records: &mut [u64],
     children: &mut [u64],
     text: &[u8],
-    used: &mut [usize; 3],
+    used: &mut Counts,
     m: usize,
 ) -> bool
     requires { ⌜ Valid (here records children text used) ⌝ }
@@ -128,7 +129,7 @@ fn replace_at(
     records: &mut [u64],
     children: &mut [u64],
     text: &[u8],
-    used: &mut [usize; 3],
+    used: &mut Counts,
     m: usize,
 ) -> bool
     requires { ⌜ Valid (here records children text used) ⌝ }
@@ -163,7 +164,7 @@ pub fn answer(
     records: &mut [u64],
     children: &mut [u64],
     text: &[u8],
-    used: &mut [usize; 3],
+    used: &mut Counts,
     op: u32,
     m: usize,
 ) -> bool

@@ -9,7 +9,7 @@ use lib.Dec.{ltb}
 use Rattle.definitions.specs.Entry.{childPlaces, textBytes}
 use Rattle.definitions.specs.Refusal.{exceedsRoom, isOverfull}
 use Rattle.green.specs.Layout.{allRecords, allChildren, allText}
-use Rattle.green.specs.Store.{Store, store, lent, entries, entriesTo}
+use Rattle.green.specs.Store.{Store, countsOf, store, lent, entries, entriesTo}
 use Rattle.green.specs.Valid.{Holds, Valid}
 
 none : (n : ℕ) → ltb n 0 ≡ false
@@ -17,7 +17,7 @@ none n = le-ltb n 0 (omega arith)
 
 module _ (records children text : List ℕ) where
   abbrev pub empty : Store
-  empty = store records children text (0 ∷ 0 ∷ 0 ∷ [])
+  empty = store records children text (countsOf 0 0 0)
 
   pub empty-entries : entries empty ≡ []
   unfolding entries entriesTo

@@ -15,6 +15,10 @@ pub record Store : Type 0 where
   pub text : List ℕ
   pub used : List ℕ
 
+-- the counts in use: records, child places and text bytes, and five places to spare
+abbrev pub countsOf : ℕ → ℕ → ℕ → List ℕ
+countsOf records children text = records ∷ children ∷ text ∷ 0 ∷ 0 ∷ 0 ∷ 0 ∷ 0 ∷ []
+
 abbrev pub store : List ℕ → List ℕ → List ℕ → List ℕ → Store
 store r c t u = record { records = r; children = c; text = t; used = u }
 

@@ -9,7 +9,7 @@ use Rattle.definitions.specs.Hash.{sharable}
 use Rattle.definitions.specs.Entry.{Entry, entryAt, treeAt, treesAt, childPlaces, textBytes}
 use Rattle.definitions.specs.Refusal.{isTooLarge, isOverfull}
 use Rattle.green.specs.Layout.{allRecords, allChildren, allText}
-use Rattle.green.specs.Store.{Store, lent, entries}
+use Rattle.green.specs.Store.{Store, countsOf, lent, entries}
 
 unfoldable pub AllBelow : ℕ → List ℕ → Type 0
 AllBelow i [] = Unit {0}
@@ -36,7 +36,7 @@ pub record Shared (es : List Entry) : Type 0 where
 
 -- the places in use are what es is written as
 pub record Holds (s : Store) (es : List Entry) : Type 0 where
-  pub counts : s .used ≡ length es ∷ childPlaces es ∷ textBytes es ∷ []
+  pub counts : s .used ≡ countsOf (length es) (childPlaces es) (textBytes es)
   pub records : take (length es * 8) (s .records) ≡ allRecords 0 0 es
   pub children : take (childPlaces es) (s .children) ≡ allChildren es
   pub text : take (textBytes es) (s .text) ≡ allText es

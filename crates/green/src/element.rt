@@ -4,6 +4,7 @@ ghost use mathlib.Core.Path.{_≡_};
 ghost use Rattle.green.specs.Store.{here, entered, entries};
 ghost use Rattle.green.specs.Valid.{Valid};
 ghost use Rattle.green.specs.Answers.{lookedUp, elementOf, summarized, keptOf};
+use crate::Counts;
 use crate::record;
 use utility_types::NodeOrToken;
 use utility_types::Refusal;
@@ -15,13 +16,7 @@ pub enum Lookup {
 }
 
 // What a number names; one that names no element is refused.
-pub fn element(
-    records: &[u64],
-    children: &[u64],
-    text: &[u8],
-    used: &[usize; 3],
-    n: usize,
-) -> Lookup
+pub fn element(records: &[u64], children: &[u64], text: &[u8], used: &Counts, n: usize) -> Lookup
     requires { ⌜ Valid (here records children text used) ⌝ }
     ensures { λ r. ⌜ lookedUp r ≡ elementOf (entries (entered records children text used)) n ⌝ }
 {
@@ -54,7 +49,7 @@ pub fn summarize(
     records: &[u64],
     children: &[u64],
     text: &[u8],
-    used: &[usize; 3],
+    used: &Counts,
     n: usize,
 ) -> Summarized
     requires { ⌜ Valid (here records children text used) ⌝ }

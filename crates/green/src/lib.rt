@@ -5,3 +5,6 @@ pub mod element;
 pub mod node;
 pub mod record;
 pub mod token;
+
+// How many of each are in use: records, child places, text bytes. The other places are spare, and 0 in a store that is in order.
+pub type Counts = [usize; 8];

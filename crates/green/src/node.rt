@@ -9,6 +9,7 @@ ghost use Rattle.definitions.specs.Entry.{entryAt, treeAt};
 ghost use Rattle.green.specs.Store.{here, entered, entries};
 ghost use Rattle.green.specs.Valid.{Valid, Known};
 ghost use Rattle.green.specs.Answers.{place, placeOf, placed, childOf};
+use crate::Counts;
 use crate::element;
 use crate::element::Lookup;
 use crate::record;
@@ -26,7 +27,7 @@ pub fn nth_child(
     records: &[u64],
     children: &[u64],
     text: &[u8],
-    used: &[usize; 3],
+    used: &Counts,
     n: usize,
     k: usize,
 ) -> Child
@@ -52,7 +53,7 @@ pub fn child_at(
     records: &[u64],
     children: &[u64],
     text: &[u8],
-    used: &[usize; 3],
+    used: &Counts,
     n: usize,
     k: usize,
 ) -> ChildAt

@@ -10,17 +10,11 @@ ghost use Rattle.definitions.specs.Entry.{entryAt, treeAt};
 ghost use Rattle.green.specs.Layout.{tag, ownCount, firstOf, wordsOf};
 ghost use Rattle.green.specs.Store.{here, entered, entries};
 ghost use Rattle.green.specs.Valid.{Known};
+use crate::Counts;
 use utility_types::SyntaxKind;
 
 // Word `f` of record `n`.
-fn word(
-    records: &[u64],
-    children: &[u64],
-    text: &[u8],
-    used: &[usize; 3],
-    n: usize,
-    f: usize,
-) -> u64
+fn word(records: &[u64], children: &[u64], text: &[u8], used: &Counts, n: usize, f: usize) -> u64
     requires { ⌜ Known (here records children text used) n × (f < 8) ⌝ }
     ensures { λ r. ⌜ r ≡ getD (wordsOf (entries (entered records children text used)) n) f 0 ⌝ }
 {
@@ -28,14 +22,14 @@ fn word(
 }
 
 // 0 for a token, 1 for a node that an event made, 2 for a node that an edit made.
-pub fn tag_of(records: &[u64], children: &[u64], text: &[u8], used: &[usize; 3], n: usize) -> u64
+pub fn tag_of(records: &[u64], children: &[u64], text: &[u8], used: &Counts, n: usize) -> u64
     requires { ⌜ Known (here records children text used) n ⌝ }
     ensures { λ r. ⌜ r ≡ tag (entryAt (entries (entered records children text used)) n) ⌝ }
 {
     word(records, children, text, used, n, 0) / 65536
 }
 
-pub fn is_node(records: &[u64], children: &[u64], text: &[u8], used: &[usize; 3], n: usize) -> bool
+pub fn is_node(records: &[u64], children: &[u64], text: &[u8], used: &Counts, n: usize) -> bool
     requires { ⌜ Known (here records children text used) n ⌝ }
     ensures { λ r. ⌜ r ≡ isNode (treeAt (entries (entered records children text used)) n) ⌝ }
 {
@@ -46,7 +40,7 @@ pub fn kind_of(
     records: &[u64],
     children: &[u64],
     text: &[u8],
-    used: &[usize; 3],
+    used: &Counts,
     n: usize,
 ) -> SyntaxKind
     requires { ⌜ Known (here records children text used) n ⌝ }
@@ -56,13 +50,7 @@ pub fn kind_of(
 }
 
 // Where its own child places or text bytes start.
-pub fn first_of(
-    records: &[u64],
-    children: &[u64],
-    text: &[u8],
-    used: &[usize; 3],
-    n: usize,
-) -> usize
+pub fn first_of(records: &[u64], children: &[u64], text: &[u8], used: &Counts, n: usize) -> usize
     requires { ⌜ Known (here records children text used) n ⌝ }
     ensures { λ r. ⌜ r ≡ firstOf (entries (entered records children text used)) n ⌝ }
 {
@@ -70,53 +58,35 @@ pub fn first_of(
 }
 
 // How many they are.
-pub fn count_of(
-    records: &[u64],
-    children: &[u64],
-    text: &[u8],
-    used: &[usize; 3],
-    n: usize,
-) -> usize
+pub fn count_of(records: &[u64], children: &[u64], text: &[u8], used: &Counts, n: usize) -> usize
     requires { ⌜ Known (here records children text used) n ⌝ }
     ensures { λ r. ⌜ r ≡ ownCount (entryAt (entries (entered records children text used)) n) ⌝ }
 {
     word(records, children, text, used, n, 2) as usize
 }
 
-pub fn text_len(
-    records: &[u64],
-    children: &[u64],
-    text: &[u8],
-    used: &[usize; 3],
-    n: usize,
-) -> usize
+pub fn text_len(records: &[u64], children: &[u64], text: &[u8], used: &Counts, n: usize) -> usize
     requires { ⌜ Known (here records children text used) n ⌝ }
     ensures { λ r. ⌜ r ≡ textLen (treeAt (entries (entered records children text used)) n) ⌝ }
 {
     word(records, children, text, used, n, 3) as usize
 }
 
-pub fn size_of(records: &[u64], children: &[u64], text: &[u8], used: &[usize; 3], n: usize) -> usize
+pub fn size_of(records: &[u64], children: &[u64], text: &[u8], used: &Counts, n: usize) -> usize
     requires { ⌜ Known (here records children text used) n ⌝ }
     ensures { λ r. ⌜ r ≡ size (treeAt (entries (entered records children text used)) n) ⌝ }
 {
     word(records, children, text, used, n, 4) as usize
 }
 
-pub fn height_of(
-    records: &[u64],
-    children: &[u64],
-    text: &[u8],
-    used: &[usize; 3],
-    n: usize,
-) -> usize
+pub fn height_of(records: &[u64], children: &[u64], text: &[u8], used: &Counts, n: usize) -> usize
     requires { ⌜ Known (here records children text used) n ⌝ }
     ensures { λ r. ⌜ r ≡ height (treeAt (entries (entered records children text used)) n) ⌝ }
 {
     word(records, children, text, used, n, 5) as usize
 }
 
-pub fn hash_of(records: &[u64], children: &[u64], text: &[u8], used: &[usize; 3], n: usize) -> u64
+pub fn hash_of(records: &[u64], children: &[u64], text: &[u8], used: &Counts, n: usize) -> u64
     requires { ⌜ Known (here records children text used) n ⌝ }
     ensures { λ r. ⌜ r ≡ hash (treeAt (entries (entered records children text used)) n) ⌝ }
 {

@@ -6,6 +6,7 @@ ghost use Rattle.definitions.specs.Tree.{isNode, text};
 ghost use Rattle.definitions.specs.Entry.{treeAt};
 ghost use Rattle.green.specs.Store.{here, entered, entries};
 ghost use Rattle.green.specs.Valid.{Known};
+use crate::Counts;
 use crate::record;
 
 // The bytes of a token: the part of the lent text itself.
@@ -13,7 +14,7 @@ pub fn text_of<'a>(
     records: &[u64],
     children: &[u64],
     text: &'a [u8],
-    used: &[usize; 3],
+    used: &Counts,
     n: usize,
 ) -> &'a [u8]
     requires { ⌜ Known (here records children text used) n × (isNode (treeAt (entries (here records children text used)) n) ≡ false) ⌝ }

@@ -7,6 +7,7 @@ ghost use Rattle.definitions.specs.Entry.{treesAt};
 ghost use Rattle.green.specs.Store.{here, entered, entries};
 ghost use Rattle.green.specs.Valid.{AllBelow, Valid};
 ghost use lib.ListN.{length};
+use green::Counts;
 use green::record;
 use utility_types::SyntaxKind;
 
@@ -19,7 +20,7 @@ pub fn hash_node(
     records: &[u64],
     children: &[u64],
     text: &[u8],
-    used: &[usize; 3],
+    used: &Counts,
     kind: SyntaxKind,
     numbers: &[u32],
 ) -> Hashed

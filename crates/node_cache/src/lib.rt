@@ -11,6 +11,7 @@ ghost use Rattle.green_new.specs.Done.{Does};
 pub mod hash;
 pub mod search;
 
+use green::Counts;
 use search::Search;
 use utility_types::Made;
 use utility_types::SyntaxKind;
@@ -20,7 +21,7 @@ pub fn token(
     records: &mut [u64],
     children: &[u64],
     text: &mut [u8],
-    used: &mut [usize; 3],
+    used: &mut Counts,
     kind: SyntaxKind,
     src: &[u8],
 ) -> Made
@@ -42,7 +43,7 @@ pub fn node(
     records: &mut [u64],
     children: &mut [u64],
     text: &[u8],
-    used: &mut [usize; 3],
+    used: &mut Counts,
     kind: SyntaxKind,
     numbers: &[u32],
 ) -> Made

@@ -10,6 +10,7 @@ ghost use Rattle.definitions.specs.NodeCache.{matches, findFrom};
 ghost use Rattle.green.specs.Store.{here, entered, entries};
 ghost use Rattle.green.specs.Valid.{Valid, Known};
 ghost use Rattle.node_cache.specs.Search.{found, NodeSought};
+use green::Counts;
 use green::node;
 use green::record;
 use green::token;
@@ -41,7 +42,7 @@ fn is_token(
     records: &[u64],
     children: &[u64],
     text: &[u8],
-    used: &[usize; 3],
+    used: &Counts,
     i: usize,
     kind: SyntaxKind,
     src: &[u8],
@@ -68,7 +69,7 @@ pub fn find_token(
     records: &[u64],
     children: &[u64],
     text: &[u8],
-    used: &[usize; 3],
+    used: &Counts,
     kind: SyntaxKind,
     src: &[u8],
     hash: u64,
@@ -92,7 +93,7 @@ fn same_children(
     records: &[u64],
     children: &[u64],
     text: &[u8],
-    used: &[usize; 3],
+    used: &Counts,
     i: usize,
     numbers: &[u32],
 ) -> bool
@@ -118,7 +119,7 @@ fn is_node(
     records: &[u64],
     children: &[u64],
     text: &[u8],
-    used: &[usize; 3],
+    used: &Counts,
     i: usize,
     kind: SyntaxKind,
     numbers: &[u32],
@@ -146,7 +147,7 @@ pub fn find_node(
     records: &[u64],
     children: &[u64],
     text: &[u8],
-    used: &[usize; 3],
+    used: &Counts,
     kind: SyntaxKind,
     numbers: &[u32],
     hash: u64,

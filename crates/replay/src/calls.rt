@@ -5,6 +5,7 @@ ghost use mathlib.Core.Bool.{true, false};
 ghost use Prim.Native.Nat.{_<_};
 ghost use Rattle.green.specs.Store.{here};
 ghost use Rattle.green.specs.Valid.{Valid};
+use green::Counts;
 use replies::elements;
 use replies::record;
 use replies::show;
@@ -16,7 +17,7 @@ fn read(
     records: &[u64],
     children: &[u64],
     text: &[u8],
-    used: &[usize; 3],
+    used: &Counts,
     slots: &mut [usize; 64],
     paths: &mut [u32; 512],
     op: u32,
@@ -40,7 +41,7 @@ fn answer(
     records: &mut [u64],
     children: &mut [u64],
     text: &mut [u8],
-    used: &mut [usize; 3],
+    used: &mut Counts,
     slots: &mut [usize; 64],
     paths: &mut [u32; 512],
     op: u32,
@@ -111,7 +112,7 @@ fn answer_all(
 ) -> After
     ensures { λ r. ⌜ (r .more ≡ true → r .left < words) ⌝ }
 {
-    let mut used = [0usize; 3];
+    let mut used = [0usize; 8];
     let mut slots = [0usize; 64];
     let mut paths = [0u32; 512];
     let mut left = words;

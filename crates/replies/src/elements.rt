@@ -3,6 +3,7 @@
 ghost use Rattle.green.specs.Store.{here};
 ghost use Rattle.green.specs.Valid.{Valid};
 use crate::show;
+use green::Counts;
 use green::element;
 use green::element::Summarized;
 
@@ -12,7 +13,7 @@ pub fn answer(
     records: &[u64],
     children: &[u64],
     text: &[u8],
-    used: &[usize; 3],
+    used: &Counts,
     op: u32,
     m: usize,
 ) -> bool

@@ -14,13 +14,14 @@ use crate::show::put;
 use crate::show::put_first;
 use crate::show::put_number;
 use crate::show::put_refused;
+use green::Counts;
 use green::node;
 use green::node::ChildAt;
 use green::record;
 use green::token;
 use utility_types::Refusal;
 
-fn put_token(records: &[u64], children: &[u64], text: &[u8], used: &[usize; 3], n: usize)
+fn put_token(records: &[u64], children: &[u64], text: &[u8], used: &Counts, n: usize)
     requires { ⌜ Known (here records children text used) n × (isNode (treeAt (entries (here records children text used)) n) ≡ false) ⌝ }
 {
     put(b"token");
@@ -34,7 +35,7 @@ fn add_child(
     records: &[u64],
     children: &[u64],
     text: &[u8],
-    used: &[usize; 3],
+    used: &Counts,
     n: usize,
     k: usize,
     line: &mut [u8],
@@ -59,7 +60,7 @@ fn put_children(
     records: &[u64],
     children: &[u64],
     text: &[u8],
-    used: &[usize; 3],
+    used: &Counts,
     n: usize,
     count: usize,
     line: &mut [u8],
@@ -75,7 +76,7 @@ fn put_children(
     put_first(line, end);
 }
 
-fn put_node(records: &[u64], children: &[u64], text: &[u8], used: &[usize; 3], n: usize)
+fn put_node(records: &[u64], children: &[u64], text: &[u8], used: &Counts, n: usize)
     requires { ⌜ Known (here records children text used) n ⌝ }
 {
     put(b"node");
@@ -99,7 +100,7 @@ pub fn answer(
     records: &[u64],
     children: &[u64],
     text: &[u8],
-    used: &[usize; 3],
+    used: &Counts,
     m: usize,
 ) -> bool
     requires { ⌜ Valid (here records children text used) ⌝ }

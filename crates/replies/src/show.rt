@@ -4,6 +4,7 @@
 ghost use Prim.Native.Nat.{_≤_};
 ghost use lib.ListN.{length};
 use builder::state::Answer;
+use green::Counts;
 use green::element::Summary;
 use libc::STDOUT_FILENO;
 use sheet_run::Ended;
@@ -52,7 +53,7 @@ pub fn put_first(line: &[u8], n: usize)
 }
 
 // Adds the counts in use, ends the line and writes it.
-fn put_counts(line: &mut [u8], n: usize, used: &[usize; 3])
+fn put_counts(line: &mut [u8], n: usize, used: &Counts)
     requires { ⌜ n ≤ length (now line) ⌝ }
 {
     let a = add_number(line, n, used[0] as u64);
@@ -63,7 +64,7 @@ fn put_counts(line: &mut [u8], n: usize, used: &[usize; 3])
 }
 
 // An accepted event: what it yields, and the counts in use after it.
-pub fn put_event(answer: Answer, used: &[usize; 3]) {
+pub fn put_event(answer: Answer, used: &Counts) {
     let mut space = [0u8; 128];
     let line: &mut [u8] = &mut space;
     match answer {
@@ -80,7 +81,7 @@ pub fn put_event(answer: Answer, used: &[usize; 3]) {
 }
 
 // How a run ended, and the counts in use after it.
-pub fn put_ended(ended: Ended, used: &[usize; 3]) {
+pub fn put_ended(ended: Ended, used: &Counts) {
     let mut space = [0u8; 128];
     let line: &mut [u8] = &mut space;
     match ended {
@@ -102,7 +103,7 @@ pub fn put_ended(ended: Ended, used: &[usize; 3]) {
 }
 
 // What an edit made, or why it was turned down, and the counts in use after it.
-pub fn put_made(made: Made, used: &[usize; 3]) {
+pub fn put_made(made: Made, used: &Counts) {
     let mut space = [0u8; 128];
     let line: &mut [u8] = &mut space;
     match made {

@@ -5,6 +5,7 @@ ghost use Rattle.green.specs.Store.{here};
 ghost use Rattle.green.specs.Valid.{Valid};
 use crate::slot;
 use crate::slot::Text;
+use green::Counts;
 use query::question::Question;
 use query::reply::Reply;
 use query_replies::line;
@@ -41,7 +42,7 @@ fn put_to(
     records: &[u64],
     children: &[u64],
     text: &[u8],
-    used: &[usize; 3],
+    used: &Counts,
     paths: &[u32; 512],
     slot: usize,
     it: Text,
@@ -72,7 +73,7 @@ fn compare(
     records: &[u64],
     children: &[u64],
     text: &[u8],
-    used: &[usize; 3],
+    used: &Counts,
     paths: &[u32; 512],
     slot: usize,
     it: Text,
@@ -106,7 +107,7 @@ fn equal(
     records: &[u64],
     children: &[u64],
     text: &[u8],
-    used: &[usize; 3],
+    used: &Counts,
     slots: &[usize; 64],
     paths: &[u32; 512],
     slot: usize,
@@ -150,7 +151,7 @@ pub fn answer(
     records: &[u64],
     children: &[u64],
     text: &[u8],
-    used: &[usize; 3],
+    used: &Counts,
     slots: &[usize; 64],
     paths: &[u32; 512],
     slot: usize,

@@ -5,6 +5,7 @@ ghost use Rattle.green.specs.Store.{here};
 ghost use Rattle.green.specs.Valid.{Valid};
 use crate::slot;
 use crate::slot::Text;
+use green::Counts;
 use replies::bytes;
 use replies::show;
 use replies::slots;
@@ -29,7 +30,7 @@ fn first(
     records: &[u64],
     children: &[u64],
     text: &[u8],
-    used: &[usize; 3],
+    used: &Counts,
     it: Text,
     path: &[u32; 64],
 ) -> usize
@@ -63,7 +64,7 @@ fn further(
     records: &[u64],
     children: &[u64],
     text: &[u8],
-    used: &[usize; 3],
+    used: &Counts,
     it: Text,
     path: &[u32; 64],
     before: usize,
@@ -112,7 +113,7 @@ fn next(
     records: &[u64],
     children: &[u64],
     text: &[u8],
-    used: &[usize; 3],
+    used: &Counts,
     slots: &mut [usize; 64],
     paths: &[u32; 512],
     slot: usize,
@@ -136,7 +137,7 @@ pub fn answer(
     records: &[u64],
     children: &[u64],
     text: &[u8],
-    used: &[usize; 3],
+    used: &Counts,
     slots: &mut [usize; 64],
     paths: &[u32; 512],
     slot: usize,

@@ -3,6 +3,7 @@
 ghost use Prim.Native.Nat.{_<_};
 ghost use Rattle.green.specs.Store.{here};
 ghost use Rattle.green.specs.Valid.{Valid};
+use green::Counts;
 use query::question::Question;
 use query::reply::Reply;
 use replies::show;
@@ -37,7 +38,7 @@ fn text_of(
     records: &[u64],
     children: &[u64],
     text: &[u8],
-    used: &[usize; 3],
+    used: &Counts,
     slots: &mut [usize; 64],
     paths: &mut [u32; 512],
     slot: usize,
@@ -72,7 +73,7 @@ fn put_slice(
     records: &[u64],
     children: &[u64],
     text: &[u8],
-    used: &[usize; 3],
+    used: &Counts,
     slots: &mut [usize; 64],
     paths: &mut [u32; 512],
     to: usize,
@@ -113,7 +114,7 @@ fn slice(
     records: &[u64],
     children: &[u64],
     text: &[u8],
-    used: &[usize; 3],
+    used: &Counts,
     slots: &mut [usize; 64],
     paths: &mut [u32; 512],
     to: usize,
@@ -154,7 +155,7 @@ pub fn answer(
     records: &[u64],
     children: &[u64],
     text: &[u8],
-    used: &[usize; 3],
+    used: &Counts,
     slots: &mut [usize; 64],
     paths: &mut [u32; 512],
     op: u32,

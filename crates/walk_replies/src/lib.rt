@@ -3,6 +3,7 @@
 ghost use Prim.Native.Nat.{_<_};
 ghost use Rattle.green.specs.Store.{here};
 ghost use Rattle.green.specs.Valid.{Valid};
+use green::Counts;
 use preorder::state::Answer;
 use preorder::state::Moved;
 use preorder::walk;
@@ -42,7 +43,7 @@ fn begin(
     records: &[u64],
     children: &[u64],
     text: &[u8],
-    used: &[usize; 3],
+    used: &Counts,
     slots: &mut [usize; 64],
     paths: &mut [u32; 512],
     slot: usize,
@@ -102,7 +103,7 @@ fn next(
     records: &[u64],
     children: &[u64],
     text: &[u8],
-    used: &[usize; 3],
+    used: &Counts,
     slots: &mut [usize; 64],
     paths: &mut [u32; 512],
     slot: usize,
@@ -164,7 +165,7 @@ pub fn answer(
     records: &[u64],
     children: &[u64],
     text: &[u8],
-    used: &[usize; 3],
+    used: &Counts,
     slots: &mut [usize; 64],
     paths: &mut [u32; 512],
     op: u32,
