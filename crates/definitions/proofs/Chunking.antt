@@ -1,4 +1,4 @@
--- The chunks of a text that fits its node: joined they are its bytes, and the steps give them one after the other. Assumes nothing.
+-- Where a text lies within its node, its chunks joined are its bytes, and the steps give them in order. Assumes nothing.
 use Prim.Native.Nat.{ℕ, zero, suc, _+_, max, min, _≤_, _<_}
 use native.Mathlib.Omega.{arith}
 use mathlib.Core.Path.{_≡_, refl, sym, ap, ap₂, _∙_}

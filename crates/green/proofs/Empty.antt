@@ -1,4 +1,4 @@
--- The empty store, in lent places of any lengths, is in order. Assumes nothing.
+-- However much is lent, a store with nothing in use is in order. Assumes nothing.
 use Prim.Native.Nat.{ℕ}
 use native.Mathlib.Omega.{arith}
 use mathlib.Core.Path.{_≡_, refl}

@@ -48,7 +48,7 @@ unfoldable pub ownText : Tree → List ℕ
 ownText (token k b) = b
 ownText (node k f) = []
 
--- the records, child places and text bytes of a list of entries, where c child places and t text bytes are used before it
+-- what a list of entries is written as in each of the three, after c child places and t text bytes of earlier ones
 unfoldable pub allRecords : ℕ → ℕ → List Entry → List ℕ
 allRecords c t [] = []
 allRecords c t (e ∷ es) = recordWords (ownFirst c t e) e ++ allRecords (c + length (e .children)) (t + ownBytes (e .tree)) es

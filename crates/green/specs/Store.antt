@@ -15,7 +15,7 @@ pub record Store : Type 0 where
   pub text : List ℕ
   pub used : List ℕ
 
--- the counts in use: records, child places and text bytes, and five places to spare
+-- the counts: of records, of child places, of text bytes, and five that are spare
 abbrev pub countsOf : ℕ → ℕ → ℕ → List ℕ
 countsOf records children text = records ∷ children ∷ text ∷ 0 ∷ 0 ∷ 0 ∷ 0 ∷ 0 ∷ []
 

@@ -28,7 +28,7 @@ pub record Formed (es : List Entry) (i : ℕ) (e : Entry) : Type 0 where
   pub kind : kind (e .tree) < 2 ^ 16
   pub token : isNode (e .tree) ≡ false → e .event ≡ true
 
--- no two sharable entries that events made are spelled alike, and what an event made stands over what events made
+-- events have made no sharable tree twice, and over edits' records they have made nothing
 pub record Shared (es : List Entry) : Type 0 where
   pub distinct : (i j : ℕ) → i < length es → j < length es → entryAt es i .event ≡ true → entryAt es j .event ≡ true
       → sharable (treeAt es i) ≡ true → treeAt es i ≡ treeAt es j → i ≡ j
