@@ -13,7 +13,7 @@ use Rattle.definitions.specs.Query as query
 use Rattle.definitions.specs.Query.{Question, ask, ofNode}
 use Rattle.green.specs.Store.{Store, entries}
 use Rattle.cursor.specs.declared.position.Cursor.{Cursor}
-use Rattle.cursor.specs.declared.path.Side.{Side}
+use Rattle.cursor.specs.declared.path.Remember.{Remember}
 use Rattle.cursor.specs.declared.path.Place.{Place}
 use Rattle.cursor.specs.declared.path.Located.{Located}
 use Rattle.cursor.specs.declared.path.Located.the-variants as located
@@ -21,9 +21,9 @@ use Rattle.cursor.specs.declared.path.LocatedNode.{LocatedNode}
 use Rattle.cursor.specs.declared.path.LocatedNode.the-variants.{At, Nowhere}
 use Rattle.cursor.specs.Position.{at, Inner}
 use Rattle.cursor.specs.Path.{named, namedNode, nodeLocatedAt, NodeFacts, Leads, LeadsToNode}
-use Rattle.cursor.specs.Answers.{asked}
+use Rattle.cursor.specs.Answers.{answerAtPath}
 use Rattle.cursor.proofs.Named.{Names}
-use Rattle.cursor.proofs.Asking.{asked-none, asked-of, nowhere-named, located-named, stood}
+use Rattle.cursor.proofs.Asking.{answer-none, answer-of, nowhere-named, located-named, located-facts}
 
 pub ofNode-node : (e : Element) → isNode (e .tree) ≡ true → (a : Result query.Answer) → ofNode e a ≡ a
 unfolding ofNode
@@ -34,7 +34,7 @@ unfolding ofNode
 ofNode-token e t a = rw t
 
 -- locate_node, by its tests
-module _ {s : Store} {side : Side} {r depth : ℕ} {l : List ℕ} {x : Located} (d : Leads s side r depth l x) where
+module _ {s : Store} {remember : Remember} {r depth : ℕ} {l : List ℕ} {x : Located} (d : Leads s remember r depth l x) where
   pub nowhere-no-node : x ≡ located.Nowhere → LeadsToNode s r depth l Nowhere
   unfolding namedNode bind
   nowhere-no-node h = record { says = rw (← nowhere-named d h .is) refl; facts = tt }
@@ -48,7 +48,7 @@ module _ {s : Store} {side : Side} {r depth : ℕ} {l : List ℕ} {x : Located} 
     unfolding namedNode bind
     node-located i = record {
       says = rw (← located-named d h .is, i .node) refl;
-      facts = record { inner = i; deep = stood d h .deep; number = stood d h .number };
+      facts = record { inner = i; deep = located-facts d h .deep; number = located-facts d h .number };
     }
 
 -- a node is named, or a token, or nothing
@@ -92,8 +92,8 @@ module _ {s : Store} {r depth : ℕ} {l : List ℕ} {x : LocatedNode} (d : Leads
 
   -- a question that refuses every token is refused
   pub no-node-asked : x ≡ Nowhere → (q : Question) → ((e : Element) → Names es r depth l (some e) → isNode (e .tree) ≡ false → ask (treeAt es r) e q ≡ refused 4)
-      → asked es r depth l q ≡ refused 4
-  no-node-asked h q f = no-node-named h (λ n. asked-none n q) (λ e n t. asked-of n q ∙ f e n t)
+      → answerAtPath es r depth l q ≡ refused 4
+  no-node-asked h q f = no-node-named h (λ n. answer-none n q) (λ e n t. answer-of n q ∙ f e n t)
 
   module _ {c : Cursor} (h : x ≡ At c) where
     pub node-facts : NodeFacts s r depth l c
@@ -104,5 +104,5 @@ module _ {s : Store} {r depth : ℕ} {l : List ℕ} {x : LocatedNode} (d : Leads
     node-named = record { is = node-of (named es r depth l) (sym (ap (nodeLocatedAt es depth l) h) ∙ d .says) }
 
     -- one that needs a node is answered
-    pub node-asked : (q : Question) {a : Result query.Answer} → ask (treeAt es r) (at es (take depth l) c) q ≡ ofNode (at es (take depth l) c) a → asked es r depth l q ≡ a
-    node-asked q {a} e = asked-of node-named q ∙ e ∙ ofNode-node (at es (take depth l) c) (node-facts .inner .node) a
+    pub node-asked : (q : Question) {a : Result query.Answer} → ask (treeAt es r) (at es (take depth l) c) q ≡ ofNode (at es (take depth l) c) a → answerAtPath es r depth l q ≡ a
+    node-asked q {a} e = answer-of node-named q ∙ e ∙ ofNode-node (at es (take depth l) c) (node-facts .inner .node) a

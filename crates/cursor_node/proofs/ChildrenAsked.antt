@@ -18,7 +18,7 @@ use Rattle.cursor.specs.declared.path.LocatedNode.{LocatedNode}
 use Rattle.cursor.specs.declared.path.LocatedNode.the-variants.{At, Nowhere}
 use Rattle.cursor.specs.Position.{at, childCount}
 use Rattle.cursor.specs.Path.{LeadsToNode}
-use Rattle.cursor.specs.Answers.{asked}
+use Rattle.cursor.specs.Answers.{answerAtPath}
 use Rattle.cursor.proofs.Positions.{children-count}
 use Rattle.cursor.proofs.AskingNodes.{ofNode-token, no-node-asked, node-facts, node-asked}
 use Rattle.cursor_node.specs.Children.{ahead, nearest, childQuestion}
@@ -33,11 +33,11 @@ module _ {s : Store} {r depth : ℕ} {l : List ℕ} {x : LocatedNode} (d : Leads
   abbrev es : List Entry
   es = entries s
 
-  pub no-children : x ≡ Nowhere → asked es r depth l (childQuestion y tokens) ≡ refused 4
+  pub no-children : x ≡ Nowhere → answerAtPath es r depth l (childQuestion y tokens) ≡ refused 4
   no-children h = no-node-asked d h (childQuestion y tokens) (λ e n t. child-ask y (treeAt es r) e tokens ∙ ofNode-token e t _)
 
   pub child-asked : {c : Cursor} → x ≡ At c → {n : ℕ} → n ≡ childCount es c
-      → maybe (nearest y (offered tokens (ahead y (children (at es (take (c .depth) l) c)) n))) ≡ asked es r depth l (childQuestion y tokens)
+      → maybe (nearest y (offered tokens (ahead y (children (at es (take (c .depth) l) c)) n))) ≡ answerAtPath es r depth l (childQuestion y tokens)
   child-asked {c} h e =
       let f = node-facts d h in
       sym (node-asked d h (childQuestion y tokens) (child-ask y (treeAt es r) (at es (take depth l) c) tokens)

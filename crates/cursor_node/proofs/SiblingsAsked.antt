@@ -21,18 +21,18 @@ use Rattle.utility_types.specs.declared.Direction.the-variants.{Next, Prev}
 use Rattle.cursor.specs.declared.position.Cursor.{Cursor}
 use Rattle.cursor.specs.declared.position.Answer.{Answer}
 use Rattle.cursor.specs.declared.position.Answer.the-variants.{None}
-use Rattle.cursor.specs.declared.path.Side.the-variants.{Either}
-use Rattle.cursor.specs.declared.path.Parent.the-variants.{Of, NoParent}
+use Rattle.cursor.specs.declared.path.Remember.the-variants.{Parent}
+use Rattle.cursor.specs.declared.path.Remembered.the-variants.{Of, NoNode}
 use Rattle.cursor.specs.declared.path.Place.{Place}
 use Rattle.cursor.specs.declared.path.Located.{Located}
 use Rattle.cursor.specs.declared.path.Located.the-variants.{At}
 use Rattle.cursor.specs.declared.path.Located.the-variants as located
 use Rattle.cursor.specs.Position.{at, Inner, childCount}
 use Rattle.cursor.specs.Path.{Leads}
-use Rattle.cursor.specs.Answers.{Tells, asked}
+use Rattle.cursor.specs.Answers.{Tells, answerAtPath}
 use Rattle.cursor.proofs.Positions.{count-most, children-count}
 use Rattle.cursor.proofs.Telling.{none-told, told-as}
-use Rattle.cursor.proofs.Asking.{asked-none, asked-of, nowhere-named, located-named}
+use Rattle.cursor.proofs.Asking.{answer-none, answer-of, nowhere-named, located-named}
 use Rattle.cursor.proofs.AskingNodes.{ofNode-node, ofNode-token}
 use Rattle.cursor_node.specs.declared.siblings.ParentAndIndex.{ParentAndIndex}
 use Rattle.cursor_node.specs.declared.siblings.ParentAndIndex.the-variants.{Child, Root, Nowhere}
@@ -73,30 +73,30 @@ sibling-ask Next t e tokens = refl
 sibling-ask Prev t e tokens = refl
 
 -- parent_and_index, by its tests
-module _ {s : Store} {r depth : ℕ} {l : List ℕ} {x : Located} (d : Leads s Either r depth l x) (tokens : Bool) where
+module _ {s : Store} {r depth : ℕ} {l : List ℕ} {x : Located} (d : Leads s Parent r depth l x) (tokens : Bool) where
   abbrev es : List Entry
   es = entries s
 
   pub nowhere-siblings : x ≡ located.Nowhere → IsParentAndIndex s r depth l tokens Nowhere
-  nowhere-siblings h = record { facts = λ y. asked-none (nowhere-named d h) (siblingQuestion y tokens) }
+  nowhere-siblings h = record { facts = λ y. answer-none (nowhere-named d h) (siblingQuestion y tokens) }
 
   module _ {p : Place} (h : x ≡ At p) where
     abbrev it : Element
     it = at es (take depth l) (p .at)
 
-    siblings-asked : (y : Direction) → asked es r depth l (siblingQuestion y tokens)
+    siblings-asked : (y : Direction) → answerAtPath es r depth l (siblingQuestion y tokens)
         ≡ ofSibling tokens it (maybe (bind (parent (treeAt es r) (take depth l)) (λ u. nearest y (offered tokens (beside y (children u) (indexOf (take depth l)))))))
-    siblings-asked y = asked-of (located-named d h) (siblingQuestion y tokens) ∙ sibling-ask y (treeAt es r) it tokens
+    siblings-asked y = answer-of (located-named d h) (siblingQuestion y tokens) ∙ sibling-ask y (treeAt es r) it tokens
 
     pub token-siblings : tokens ≡ false → isNode (treeAt es (p .at .number)) ≡ false → IsParentAndIndex s r depth l tokens Nowhere
     token-siblings f z = record { facts = λ y. siblings-asked y ∙ ofSibling-token tokens it f z _ }
 
     module _ (m : IsOffered tokens (treeAt es (p .at .number))) where
-      pub root-siblings : p .parent ≡ NoParent → IsParentAndIndex s r depth l tokens Root
+      pub root-siblings : p .remembered ≡ NoNode → IsParentAndIndex s r depth l tokens Root
       unfolding maybe option bind
       root-siblings n = record { facts = λ y. siblings-asked y ∙ ofSibling-offered tokens it m _ ∙ rw (root-orphan d h n) refl }
 
-      pub child-siblings : {c : Cursor} → p .parent ≡ Of c → {i : ℕ} → i ≡ getD l (c .depth) 0 → IsParentAndIndex s r depth l tokens (Child c i)
+      pub child-siblings : {c : Cursor} → p .remembered ≡ Of c → {i : ℕ} → i ≡ getD l (c .depth) 0 → IsParentAndIndex s r depth l tokens (Child c i)
       unfolding bind
       child-siblings {c} n {i} e =
           let a = parent-above d h n in
@@ -112,10 +112,10 @@ module _ {s : Store} {r depth : ℕ} {l : List ℕ} {x : Located} (d : Leads s E
 
 -- sibling_towards, by what parent_and_index says
 module _ {s : Store} {r depth : ℕ} {l : List ℕ} {tokens : Bool} {x : ParentAndIndex} (f : IsParentAndIndex s r depth l tokens x) (y : Direction) where
-  pub no-siblings : x ≡ Nowhere → asked (entries s) r depth l (siblingQuestion y tokens) ≡ refused 4
+  pub no-siblings : x ≡ Nowhere → answerAtPath (entries s) r depth l (siblingQuestion y tokens) ≡ refused 4
   no-siblings e = (rw e at (f .facts)) y
 
-  pub root-told : x ≡ Root → Tells l l (asked (entries s) r depth l (siblingQuestion y tokens)) None
+  pub root-told : x ≡ Root → Tells l l (answerAtPath (entries s) r depth l (siblingQuestion y tokens)) None
   root-told e = record { says = sym ((rw e at (f .facts)) y); kept = refl }
 
 pub is-child : {s : Store} {r depth : ℕ} {l : List ℕ} {tokens : Bool} {x : ParentAndIndex} → IsParentAndIndex s r depth l tokens x → {c : Cursor} {i : ℕ} → x ≡ Child c i
@@ -125,6 +125,6 @@ is-child f e = rw e at (f .facts)
 pub sibling-told : {s : Store} {r depth : ℕ} {l : List ℕ} {tokens : Bool} {c : Cursor} {i : ℕ} → IsChild s r depth l tokens c i → (y : Direction) {n left : ℕ}
     → n ≡ childCount (entries s) c → left ≡ siblingsLeft y n i → {l′ : List ℕ} {a : Answer}
     → Tells l l′ (maybe (nearest y (offered tokens (ahead y (children (at (entries s) (take (c .depth) l) c)) left)))) a
-    → Tells l l′ (asked (entries s) r depth l (siblingQuestion y tokens)) a
+    → Tells l l′ (answerAtPath (entries s) r depth l (siblingQuestion y tokens)) a
 sibling-told {s} {l = l} {tokens} {c} {i} k y e el t =
     told-as t (ap (λ v. maybe (nearest y (offered tokens (ahead y (children (at (entries s) (take (c .depth) l) c)) v)))) (el ∙ ap (λ n. siblingsLeft y n i) e) ∙ sym (k .siblings y))

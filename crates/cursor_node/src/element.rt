@@ -6,8 +6,8 @@ ghost use Rattle.green.specs.Valid.{Valid};
 ghost use Rattle.cursor.specs.Answers.{Answers};
 use cursor::path;
 use cursor::path::Located;
-use cursor::path::Parent;
-use cursor::path::Side;
+use cursor::path::Remember;
+use cursor::path::Remembered;
 use cursor::position;
 use cursor::position::Answer;
 use green::Counts;
@@ -33,7 +33,7 @@ pub fn element_at(
         root,
         path,
         depth,
-        Side::Either,
+        Remember::Parent,
     );
     let Located::At(place) = found else {
         return Answer::Refused(Refusal::NoSuchElement);
@@ -62,13 +62,13 @@ pub fn parent(
         root,
         path,
         depth,
-        Side::Either,
+        Remember::Parent,
     );
     let Located::At(place) = found else {
         return Answer::Refused(Refusal::NoSuchElement);
     };
-    let above = place.parent;
-    let Parent::Of(up) = above else {
+    let above = place.remembered;
+    let Remembered::Of(up) = above else {
         return Answer::None;
     };
     Answer::Element(position::syntax_element(records, children, text, used, up))
