@@ -14,7 +14,7 @@ use Rattle.preorder.proofs.Alike.{coming-same, ok≢refused, same-depth}
 use Rattle.preorder_lent.specs.declared.Preorder.{Preorder}
 use Rattle.preorder_lent.specs.declared.Outcome.{Outcome}
 use Rattle.preorder_lent.specs.declared.Outcome.the-variants.{Done, Refused}
-use Rattle.preorder_lent.specs.Lent.{WalkValid, walkIn, outcomeAs, begunAs, OverIfRefused, Begins}
+use Rattle.preorder_lent.specs.Lent.{WalkValid, walkIn, outcomeAs, lentBegunAs, OverIfRefused, LentWalkBegun}
 
 ok-same : {v w : Walk} → _≡_ {A = Result Walk} (ok v) (ok w) → v ≡ w
 ok-same e = cc
@@ -40,7 +40,7 @@ module _ (w w′ : Preorder) (v : WalkValid w) (v′ : WalkValid w′) (l : List
     path = p ∙ sym p′;
   }
 
-  begun-same : (tokens : Bool) (a a′ : Outcome) → begunAs w a ≡ begunAs w′ a′ → OverIfRefused tokens w a → OverIfRefused tokens w′ a′ → (outcomeAs a ≡ outcomeAs a′) × SameState w w′
+  begun-same : (tokens : Bool) (a a′ : Outcome) → lentBegunAs w a ≡ lentBegunAs w′ a′ → OverIfRefused tokens w a → OverIfRefused tokens w′ a′ → (outcomeAs a ≡ outcomeAs a′) × SameState w w′
   begun-same tokens Done Done e o o′ = (refl, same-walk (ok-same e))
   begun-same tokens Done (Refused x) e o o′ = absurd (ok≢refused e)
   begun-same tokens (Refused x) Done e o o′ = absurd (ok≢refused (sym e))
@@ -48,6 +48,6 @@ module _ (w w′ : Preorder) (v : WalkValid w) (v′ : WalkValid w′) (l : List
 
 -- THE CLAIM
 pub begun-alike : {es es′ : List Entry} {r r′ : ℕ} {tokens : Bool} {depth : ℕ} (l : List ℕ) → 64 ≤ length l → beginOf es r tokens depth l ≡ beginOf es′ r′ tokens depth l
-    → {w w′ : Preorder} {a a′ : Outcome} → Begins es r tokens depth l w a → Begins es′ r′ tokens depth l w′ a′ → (outcomeAs a ≡ outcomeAs a′) × SameState w w′
+    → {w w′ : Preorder} {a a′ : Outcome} → LentWalkBegun es r tokens depth l w a → LentWalkBegun es′ r′ tokens depth l w′ a′ → (outcomeAs a ≡ outcomeAs a′) × SameState w w′
 begun-alike {tokens = tokens} l room e {w} {w′} {a} {a′} b b′ =
     begun-same w w′ (b .valid) (b′ .valid) l room (b .path) (b′ .path) tokens a a′ (b .says ∙ e ∙ sym (b′ .says)) (b .over) (b′ .over)

@@ -17,7 +17,7 @@ use Rattle.syntax_text.specs.declared.text.Checked.{Checked}
 use Rattle.syntax_text.specs.declared.text.Checked.the-variants.{Within}
 use Rattle.syntax_text.specs.Text.{textAt, askedText, Checks}
 use Rattle.syntax_text.specs.Piece.{bytesAt}
-use Rattle.syntax_text.proofs.Testing.{Single, answered, held}
+use Rattle.syntax_text.proofs.Testing.{Single, answered, text-within}
 use Rattle.syntax_text.proofs.Finding.{held-bytes}
 
 -- the slice f..g of the text x, whose bytes are bs
@@ -42,7 +42,7 @@ module _ {s : Store} {r depth : ℕ} {l : List ℕ} {a b : ℕ} {x : Checked} (c
   own = part (p .start) (bytesAt (entries s) p) a b
 
   slice-asked : askedText (entries s) r depth l a b (TextQuestion.slice f g) ≡ sliced own (textAt depth l a b) f g
-  slice-asked = sym (answered c (TextQuestion.slice f g) _ (slice-is f g) h) ∙ ap (λ bs. sliced bs (textAt depth l a b) f g) (held-bytes (held c h))
+  slice-asked = sym (answered c (TextQuestion.slice f g) _ (slice-is f g) h) ∙ ap (λ bs. sliced bs (textAt depth l a b) f g) (held-bytes (text-within c h))
 
   pub slice-back : g < f → refused 5 ≡ askedText (entries s) r depth l a b (TextQuestion.slice f g)
   unfolding isRangeOutside
