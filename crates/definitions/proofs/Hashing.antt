@@ -56,10 +56,6 @@ module _ (ws : List ℕ) where
   unfolding sharableOver
   sharable-so-far l = record { within = omega arith; rest = rw (le-leb (length ws) 3 l) }
 
-  pub many-unsharable : 3 < length ws → false ≡ sharableOver ws
-  unfolding sharableOver
-  many-unsharable l = rw (lt-leb (length ws) 3 l)
-
 module _ (k : ℕ) (ws : List ℕ) where
   pub sharable-hash : true ≡ sharableOver ws → addWords (addWord 0 k) ws ≡ nodeHash k ws
   unfolding nodeHash

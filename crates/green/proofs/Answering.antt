@@ -14,6 +14,8 @@ use Rattle.definitions.specs.Entry.{entryAt, treeAt, childPlaces, textBytes, ow
 use Rattle.definitions.specs.Refusal.{isAbsent, isNoNode, isRangeOutside}
 use Rattle.definitions.proofs.Limits.{absent, present}
 use Rattle.definitions.proofs.Entries.{treesAt-count}
+use Rattle.definitions.proofs.Results.{ok≢refused}
+use Rattle.definitions.proofs.Laws.{false≢true}
 use Rattle.utility_types.specs.Numbers.{refusalNumber}
 use Rattle.utility_types.specs.declared.Refusal.{Refusal}
 use Rattle.utility_types.specs.declared.NodeOrToken.{NodeOrToken}
@@ -86,11 +88,11 @@ found : (b d : Bool) (n m : ℕ) (i : Bool)
 found true d n m i e =
     let z : _≡_ {A = Named} (record { number = n; isNode = d }) (record { number = m; isNode = i }) = cc in
     (refl, sym (ap (λ x. x .number) z), ap (λ x. x .isNode) z)
-found false d n m i e = absurd (let z : _≡_ {A = ℕ} 0 1 = cc in omega arith)
+found false d n m i e = absurd (ok≢refused (sym e))
 
 not-found : (b d : Bool) (n r : ℕ) → _≡_ {A = Result Named} (cond (not b) (refused 4) (ok (record { number = n; isNode = d }))) (refused r) → b ≡ false
 not-found false d n r e = refl
-not-found true d n r e = absurd (let z : _≡_ {A = ℕ} 0 1 = cc in omega arith)
+not-found true d n r e = absurd (ok≢refused e)
 
 module _ (s : Store) (n : ℕ) where
   pub refused-no-node : (r : ℕ) → refused r ≡ elementOf (entries s) n → isNoNode (entries s) n ≡ true
@@ -134,7 +136,7 @@ module _ (s : Store) (n k : ℕ) (h : Known s n) (d : isNode (treeAt (entries s)
 token-text : (t : Tree) → isNode t ≡ false → ownText t ≡ text t
 unfolding isNode ownText text
 token-text (token k b) e = refl
-token-text (node k f) e = absurd (let z : _≡_ {A = ℕ} 0 1 = cc in omega arith)
+token-text (node k f) e = absurd (false≢true (sym e))
 
 module _ (s : Store) (n : ℕ) (h : Known s n) (d : isNode (treeAt (entries s) n) ≡ false) where
   token-first : firstOf (entries s) n ≡ textBytes (take n (entries s))
@@ -150,7 +152,7 @@ module _ (s : Store) (n : ℕ) (h : Known s n) (d : isNode (treeAt (entries s) n
   pub token-part : (f c : ℕ) → f ≡ firstOf (entries s) n → c ≡ ownCount (entryAt (entries s) n) → take (f + c - f) (drop f (s .text)) ≡ text (treeAt (entries s) n)
   token-part f c p q =
       rw (p ∙ token-first, q ∙ token-count)
-      (part-slice (s .text) (textBytes (take n (entries s))) (ownBytes (treeAt (entries s) n)) (text-bound s n h)
+      (part-slice (s .text) (textBytes (take n (entries s))) (textBytes (take n (entries s)) + ownBytes (treeAt (entries s) n)) (omega arith) (omega (arith, text-bound s n h))
       ∙ text-at s (entries s) (h .valid) n (h .within) ∙ token-text (treeAt (entries s) n) d)
 
 -- child_at, by what `element` answered
@@ -182,7 +184,7 @@ module _ {s : Store} (v : Valid s) (n : ℕ) {l : Lookup} (told : lookedUp l ≡
 token-childless : (t : Tree) → isNode t ≡ false → 0 ≡ count (childrenOf t)
 unfolding isNode childrenOf count
 token-childless (token k b) e = refl
-token-childless (node k f) e = absurd (let z : _≡_ {A = ℕ} 0 1 = cc in omega arith)
+token-childless (node k f) e = absurd (false≢true (sym e))
 
 pub no-summary : (s : Store) → Valid s → (n : ℕ) → getD (s .used) 0 0 ≤ n → refused 4 ≡ fieldsOf (entries s) n
 no-summary s v n h = rw (absent (entries s) n (omega (arith, count-records s v)))
