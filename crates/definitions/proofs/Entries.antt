@@ -14,7 +14,7 @@ use Rattle.definitions.specs.Entry.{Entry, treesAt, childPlaces, textByt
 use Rattle.definitions.specs.Refusal.{isAbsent, exceedsRoom, isOverfull}
 use Rattle.definitions.proofs.Limits.{present, Room, entries-room, false-or, absent as is-absent}
 
--- summarize
+-- a tree for each number
 pub treesAt-count : (es : List Entry) (ns : List ℕ) → count (treesAt es ns) ≡ length ns
 unfolding count treesAt
 treesAt-count es [] = refl
@@ -39,7 +39,6 @@ overfull-push l es e =
     let t : textBytes (es ++ (e ∷ [])) ≡ textBytes es + ownBytes (e .tree) = textBytes-append es (e ∷ []) ∙ omega arith in
     rw (length-append es (e ∷ []), c, t)
 
--- room for entries is room for the first of them
 no-excess : {l : Lent} {r c t : ℕ} → Room l r c t → exceedsRoom l r c t ≡ false
 unfolding exceedsRoom
 no-excess {l} {r} {c} {t} h =
@@ -47,6 +46,7 @@ no-excess {l} {r} {c} {t} h =
     (false-or _ _ (le-ltb (min (l .children) 16384) c (omega (arith, h .children-lent, h .children-most)))
     (le-ltb (min (l .text) 65536) t (omega (arith, h .text-lent, h .text-most))))
 
+-- room for entries is room for the first of them
 pub room-front : (l : Lent) (xs ys : List Entry) → isOverfull l (xs ++ ys) ≡ false → isOverfull l xs ≡ false
 unfolding isOverfull
 room-front l xs ys e =
@@ -63,7 +63,7 @@ room-front l xs ys e =
       text-most = omega (arith, r .text-most);
     })
 
--- are_elements: what is left gives the answer
+-- every number before i names an element: what is left gives the answer
 pub record PresentSoFar (es : List Entry) (ns : List ℕ) (i : ℕ) : Type 0 where
   pub at : i ≤ length ns
   pub rest : any (isAbsent es) (drop i ns) ≡ any (isAbsent es) ns
@@ -87,6 +87,7 @@ module _ {es : List Entry} {ns : List ℕ} {i : ℕ} (f : PresentSoFar es ns i) 
   unfolding any
   present-all h = ap not (rw (drop-of-length-le ns h) at (f .rest))
 
+-- a number that names an element
 pub named : (es : List Entry) (n : ℕ) → isAbsent es n ≡ false → n < length es
 unfolding isAbsent
 named es n q = ltb-true n (length es) (not-false _ q)

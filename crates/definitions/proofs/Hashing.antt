@@ -108,6 +108,7 @@ module _ {es : List Entry} {ns hs : List ℕ} where
     unfolding sharable hash
     hashed l k p q = (p ∙ ap sharableOver (copied-all l), q ∙ ap (nodeHash k) (copied-all l))
 
+-- the same by a count of the children
 pub many-hash : (es : List Entry) (k : ℕ) (ns : List ℕ) {c : ℕ} → c ≡ length ns → 3 < c → 0 ≡ hash (node k (treesAt es ns))
 many-hash es k ns e h = many-unshared es k ns (omega arith) .1
 
