@@ -2,21 +2,21 @@
 use Prim.Native.Nat.{ℕ, zero, suc, _+_, max, min, _≤_, _<_}
 use native.Mathlib.Omega.{arith}
 use mathlib.Core.Path.{_≡_, refl, sym, ap, ap₂, _∙_}
-use mathlib.Core.List.{List, [], _∷_, _++_, map, flatten, append-assoc, append-nil, cons-ne-nil}
+use mathlib.Core.List.{List, [], _∷_, _++_, map, flatten, append-assoc, append-nil}
 use mathlib.Core.Bool.{Bool, true, false, cond, not}
-use mathlib.Core.Option.{Option, none, some}
-use lib.Dec.{leb, ltb}
-use lib.ListN.{length, take, drop, getElem?, replicate, length-append}
+use mathlib.Core.Option.{Option, none, some, Option·none-ne-some}
+use lib.Dec.{ltb}
+use lib.ListN.{length, drop, getElem?, replicate}
 use borrow.Author.Tests.{ltb-true, ltb-false, leb-false}
-use Rattle.definitions.specs.Prelude.{Result, ok, option, filter}
+use Rattle.definitions.specs.Prelude.{ok, option, filter}
 use Rattle.definitions.specs.Tree.{Tree, Forest, token, node, nil, cons, isNode, text, texts, textLen, textLens}
 use Rattle.definitions.specs.Refusal.{isRangeOutside}
 use Rattle.definitions.specs.Element.{Element, end, root, along, elementAt}
 use Rattle.definitions.specs.Cursor.{tokensIn, tokensOf, tokens}
 use Rattle.definitions.specs.SyntaxText.{SyntaxText, isNowhere, isAstray, checked, ofText, part, bytes, meets, chunk, chunks, Chunks, stepped, nextChunk, chunkAnswers}
 use Rattle.definitions.proofs.Laws.{false≢true, text-length, texts-length}
+use Rattle.definitions.proofs.Lists.{none-there, some-there}
 use Rattle.definitions.proofs.Limits.{or-false}
-use Rattle.definitions.proofs.Paths.{none≢some}
 use Rattle.definitions.proofs.Parts.{Inside, along-inside, part-inside, part-split, part-none}
 
 -- what two neighbours have of a..b is what both together have of it
@@ -99,18 +99,6 @@ module _ (x : SyntaxText) where
         ∙ ap₂ (λ y z. y ++ z) (joined-in t (p ++ (i ∷ [])) o) (joined-of f p (i + 1) (o + textLen t))
         ∙ rw (← a, ← text-length t, ← texts-length f) (neighbours o (text t) (texts f) (x .start) (x .stop))
 
-module _ {A : Type 0} where
-  none-there : (l : List A) (k : ℕ) → drop k l ≡ [] → getElem? l k ≡ none
-  none-there [] k h = refl
-  none-there (y ∷ l) zero h = absurd (cons-ne-nil y l h)
-  none-there (y ∷ l) (suc k) h = none-there l k h
-
-  some-there : (l : List A) (k : ℕ) {c : A} {cs : List A} → drop k l ≡ c ∷ cs → (getElem? l k ≡ some c) × (drop (suc k) l ≡ cs)
-  some-there [] zero {c} {cs} h = absurd (cons-ne-nil c cs (sym h))
-  some-there [] (suc k) {c} {cs} h = absurd (cons-ne-nil c cs (sym h))
-  some-there (y ∷ l) zero h = (cc, cc)
-  some-there (y ∷ l) (suc k) h = some-there l k h
-
 -- the chunks of a text that fits
 module _ (t : Tree) (x : SyntaxText) (n : isNowhere t x ≡ false) (r : isAstray t x ≡ false) where
   chunks-of : {e : Element} → elementAt t (x .node) ≡ some e → flatten (chunks t x) ≡ part (e .start) (text (e .tree)) (max (x .start) (e .start)) (min (x .stop) (end e))
@@ -134,7 +122,7 @@ module _ (t : Tree) (x : SyntaxText) (n : isNowhere t x ≡ false) (r : isAstray
     where
       go : (b : Bool) → cond b (along (x .node) (root t)) none ≡ some e → Inside 0 (text t) (e .start) (text (e .tree))
       go true h = along-inside (x .node) (root t) h
-      go false h = absurd (none≢some h)
+      go false h = absurd (Option·none-ne-some _ h)
 
   -- JOINED, they are its bytes
   pub chunks-joined : flatten (chunks t x) ≡ bytes t x

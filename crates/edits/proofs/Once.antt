@@ -4,13 +4,14 @@ use native.Mathlib.Omega.{arith}
 use mathlib.Core.Path.{_≡_, sym, _∙_}
 use mathlib.Core.List.{List, [], _∷_, _++_}
 use mathlib.Core.Bool.{true, false}
-use borrow.Author.Tests.{lt-ltb}
 use lib.ListN.{length, length-append}
-use Rattle.definitions.specs.Prelude.{Result, refused}
+use borrow.Author.Tests.{lt-ltb}
+use Rattle.definitions.specs.Prelude.{Result}
 use Rattle.definitions.specs.Tree.{kind}
 use Rattle.definitions.specs.Entry.{Entry, treeAt, nodeEntry, Lent}
 use Rattle.definitions.specs.Refusal.{exceedsRoom, isOverfull}
 use Rattle.definitions.specs.NodeCache.{Made}
+use Rattle.definitions.proofs.Results.{refused-injective}
 use Rattle.utility_types.specs.Numbers.{refusalNumber}
 use Rattle.utility_types.specs.declared.Refusal.{Refusal}
 use Rattle.green.specs.Store.{Store, entries}
@@ -26,11 +27,8 @@ full : (es : List Entry) (e : Entry) → isOverfull nothing (es ++ (e ∷ [])) �
 unfolding isOverfull exceedsRoom
 full es e = rw (lt-ltb 0 (length (es ++ (e ∷ []))) (omega (arith, length-append es (e ∷ []))))
 
-refused-inj : {i j : ℕ} → _≡_ {A = Result Made} (refused i) (refused j) → i ≡ j
-refused-inj e = cc
-
 pub one-refusal : {call : Lent → Result Made} {r q : Refusal} → Refuses call r → Refuses call q → refusalNumber r ≡ refusalNumber q
-one-refusal a b = refused-inj (sym (a .always nothing) ∙ b .always nothing)
+one-refusal a b = refused-injective (sym (a .always nothing) ∙ b .always nothing)
 
 -- what is needed, part by part
 needs : (count len size height hash : ℕ) → Needed
@@ -49,4 +47,4 @@ module _ {s : Store} {n : ℕ} {ns : List ℕ} {call : Lent → Result Made} {x 
   pub not-refused : {r : Refusal} → Refuses call r → ⊥
   not-refused b =
       let e = nodeEntry false (entries s) (kind (treeAt (entries s) n)) ns in
-      b .not-room (refused-inj (sym (b .always nothing) ∙ a .made nothing ∙ push-full nothing (entries s) e (length (entries s)) (a .small) (full (entries s) e)))
+      b .not-room (refused-injective (sym (b .always nothing) ∙ a .made nothing ∙ push-full nothing (entries s) e (length (entries s)) (a .small) (full (entries s) e)))

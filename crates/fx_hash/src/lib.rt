@@ -1,8 +1,9 @@
 // Stands for the crate rustc-hash: a hash of 64 bits takes a word at a time. rowan finds by it what it shares.
 ghost use mathlib.Core.Path.{_≡_};
 ghost use Prim.Native.Nat.{_*_, _%_, _^_};
-ghost use Rattle.definitions.specs.Hash.{rotateLeft5, addWord, tokenHash, sharableOver, nodeHash};
+ghost use Rattle.definitions.specs.Hash.{rotateLeft5, addWord, tokenHash};
 use utility_types::SyntaxKind;
+use utility_types::number;
 
 // By halves, since a product that may not fit is refused; that of the upper halves goes wholly out.
 // LLVM sees through it, and makes one multiplication of it.
@@ -30,14 +31,8 @@ pub fn add_word(h: u64, w: u64) -> u64
     wrapping_mul(rotate_left5(h) ^ w, 0x517c_c1b7_2722_0a95)
 }
 
-// Asks only for the index, where `text[i] as u64` asks too that the byte fits.
-fn wide(b: u8) -> u64
-    ensures { λ r. ⌜ r ≡ b ⌝ }
-{
-    b as u64
-}
-
-fn kind_hash(kind: SyntaxKind) -> u64
+// What the hash of an element starts from.
+pub fn kind_hash(kind: SyntaxKind) -> u64
     ensures { λ r. ⌜ r ≡ addWord 0 (kind .0) ⌝ }
 {
     add_word(0, kind.0 as u64)
@@ -50,41 +45,8 @@ pub fn token_hash(kind: SyntaxKind, text: &[u8]) -> u64
     let mut h = kind_hash(kind);
     let mut i = 0;
     while i < text.len() {
-        h = add_word(h, wide(text[i]));
+        h = add_word(h, number::wide(text[i]) as u64);
         i += 1;
     }
     add_word(h, 255)
-}
-
-// Whether a node over children of these hashes is shared: a large one is not, nor one over what is not, whose hash is 0.
-pub fn is_sharable(hashes: &[u64]) -> bool
-    ensures { λ r. ⌜ r ≡ sharableOver (now (hashes .entry)) ⌝ }
-{
-    if 3 < hashes.len() {
-        return false;
-    }
-    let mut i = 0;
-    while i < hashes.len() {
-        if hashes[i] == 0 {
-            return false;
-        }
-        i += 1;
-    }
-    true
-}
-
-// 0 where the node is not shared.
-pub fn node_hash(kind: SyntaxKind, hashes: &[u64]) -> u64
-    ensures { λ r. ⌜ r ≡ nodeHash (kind .0) (now (hashes .entry)) ⌝ }
-{
-    if !is_sharable(hashes) {
-        return 0;
-    }
-    let mut h = kind_hash(kind);
-    let mut i = 0;
-    while i < hashes.len() {
-        h = add_word(h, hashes[i]);
-        i += 1;
-    }
-    h
 }

@@ -5,14 +5,17 @@ use mathlib.Core.Path.{_≡_, refl, sym, ap, _∙_}
 use mathlib.Core.List.{List, [], _∷_}
 use mathlib.Core.Bool.{Bool, true, false, cond, not}
 use lib.Dec.{ltb}
-use borrow.Author.Tests.{ltb-true, lt-ltb, le-ltb}
 use lib.ListN.{length, getD, take, drop}
+use borrow.Author.Tests.{ltb-true, lt-ltb, le-ltb}
 use Rattle.definitions.specs.Prelude.{Result, ok, refused}
 use Rattle.definitions.specs.Tree.{Tree, token, node, kind, isNode, text, childrenOf, count, textLen, size, height}
 use Rattle.definitions.specs.Hash.{hash}
-use Rattle.definitions.specs.Entry.{Entry, entryAt, treeAt, treesAt, childPlaces, textBytes, ownBytes}
+use Rattle.definitions.specs.Entry.{entryAt, treeAt, childPlaces, textBytes, ownBytes}
 use Rattle.definitions.specs.Refusal.{isAbsent, isNoNode, isRangeOutside}
 use Rattle.definitions.proofs.Limits.{absent, present}
+use Rattle.definitions.proofs.Entries.{treesAt-count}
+use Rattle.definitions.proofs.Results.{ok≢refused}
+use Rattle.definitions.proofs.Laws.{false≢true}
 use Rattle.utility_types.specs.Numbers.{refusalNumber}
 use Rattle.utility_types.specs.declared.Refusal.{Refusal}
 use Rattle.utility_types.specs.declared.NodeOrToken.{NodeOrToken}
@@ -20,7 +23,7 @@ use Rattle.utility_types.specs.declared.NodeOrToken.the-variants.{Node, Token}
 use Rattle.green.specs.Layout.{ownCount, firstOf, ownText}
 use Rattle.green.specs.Store.{Store, entries}
 use Rattle.green.specs.Valid.{AllBelow, Valid, Known}
-use Rattle.green.specs.Answers.{Named, lookedUp, elementOf, keptOf, Place, placeOf, childOf}
+use Rattle.green.specs.Answers.{Named, lookedUp, elementOf, fieldsOf, Place, placeOf, childOf}
 use Rattle.green.specs.declared.element.Lookup.{Lookup}
 use Rattle.green.specs.declared.element.Lookup.the-variants.{Element, Refused}
 use Rattle.green.proofs.Lists.{slice-at, part-slice}
@@ -41,6 +44,9 @@ unfolding AllBelow
 below-at i [] k b h = absurd (omega arith)
 below-at i (n ∷ ns) zero b h = b .0
 below-at i (n ∷ ns) (suc k) b h = below-at i ns k (b .1) (omega arith)
+
+pub child-known : {s : Store} (ns : List ℕ) {i n : ℕ} → Valid s → AllBelow (length (entries s)) ns → i < length ns → n ≡ getD ns i 0 → Known s n
+child-known {s} ns {i} v b lt e = record { valid = v; within = rw e (below-at (length (entries s)) ns i b lt) }
 
 -- nth_child
 same-place : (a b c d : ℕ) → a ≡ b → c ≡ d → _≡_ {A = Place} (record { number = a; offset = c }) (record { number = b; offset = d })
@@ -82,11 +88,11 @@ found : (b d : Bool) (n m : ℕ) (i : Bool)
 found true d n m i e =
     let z : _≡_ {A = Named} (record { number = n; isNode = d }) (record { number = m; isNode = i }) = cc in
     (refl, sym (ap (λ x. x .number) z), ap (λ x. x .isNode) z)
-found false d n m i e = absurd (let z : _≡_ {A = ℕ} 0 1 = cc in omega arith)
+found false d n m i e = absurd (ok≢refused (sym e))
 
 not-found : (b d : Bool) (n r : ℕ) → _≡_ {A = Result Named} (cond (not b) (refused 4) (ok (record { number = n; isNode = d }))) (refused r) → b ≡ false
 not-found false d n r e = refl
-not-found true d n r e = absurd (let z : _≡_ {A = ℕ} 0 1 = cc in omega arith)
+not-found true d n r e = absurd (ok≢refused e)
 
 module _ (s : Store) (n : ℕ) where
   pub refused-no-node : (r : ℕ) → refused r ≡ elementOf (entries s) n → isNoNode (entries s) n ≡ true
@@ -107,9 +113,9 @@ module _ (s : Store) (n : ℕ) where
       (f .1, record { valid = v; within = ltb-true n (length (entries s)) (f .0) }, f .2)
 
 -- child_at
-node-count : (e : Entry) → isNode (e .tree) ≡ true → ownCount e ≡ length (e .children)
+pub count-node : {s : Store} {n : ℕ} → Known s n → isNode (treeAt (entries s) n) ≡ true → ownCount (entryAt (entries s) n) ≡ length (entryAt (entries s) n .children)
 unfolding ownCount
-node-count e d = rw d
+count-node k d = rw d
 
 module _ (s : Store) (n k : ℕ) (h : Known s n) (d : isNode (treeAt (entries s) n) ≡ true) where
   node-here : isNoNode (entries s) n ≡ false
@@ -119,18 +125,18 @@ module _ (s : Store) (n k : ℕ) (h : Known s n) (d : isNode (treeAt (entries s)
   pub child-outside : ownCount (entryAt (entries s) n) ≤ k → refused 5 ≡ childOf (entries s) n k
   unfolding isRangeOutside
   child-outside l =
-      rw (node-here, le-ltb (suc k) k (omega arith), le-ltb k 0 (omega arith), lt-ltb (length (entryAt (entries s) n .children)) (suc k) (omega (arith, node-count (entryAt (entries s) n) d)))
+      rw (node-here, le-ltb (suc k) k (omega arith), le-ltb k 0 (omega arith), lt-ltb (length (entryAt (entries s) n .children)) (suc k) (omega (arith, count-node h d)))
 
   pub child-within : k < ownCount (entryAt (entries s) n) → (p : Place) → p ≡ placeOf (entries s) n k → ok p ≡ childOf (entries s) n k
   unfolding isRangeOutside
   child-within l p e =
-      rw (node-here, le-ltb (suc k) k (omega arith), le-ltb k 0 (omega arith), le-ltb (length (entryAt (entries s) n .children)) (suc k) (omega (arith, node-count (entryAt (entries s) n) d))) (ap ok e)
+      rw (node-here, le-ltb (suc k) k (omega arith), le-ltb k 0 (omega arith), le-ltb (length (entryAt (entries s) n .children)) (suc k) (omega (arith, count-node h d))) (ap ok e)
 
 -- text_of
 token-text : (t : Tree) → isNode t ≡ false → ownText t ≡ text t
 unfolding isNode ownText text
 token-text (token k b) e = refl
-token-text (node k f) e = absurd (let z : _≡_ {A = ℕ} 0 1 = cc in omega arith)
+token-text (node k f) e = absurd (false≢true (sym e))
 
 module _ (s : Store) (n : ℕ) (h : Known s n) (d : isNode (treeAt (entries s) n) ≡ false) where
   token-first : firstOf (entries s) n ≡ textBytes (take n (entries s))
@@ -146,7 +152,7 @@ module _ (s : Store) (n : ℕ) (h : Known s n) (d : isNode (treeAt (entries s) n
   pub token-part : (f c : ℕ) → f ≡ firstOf (entries s) n → c ≡ ownCount (entryAt (entries s) n) → take (f + c - f) (drop f (s .text)) ≡ text (treeAt (entries s) n)
   token-part f c p q =
       rw (p ∙ token-first, q ∙ token-count)
-      (part-slice (s .text) (textBytes (take n (entries s))) (ownBytes (treeAt (entries s) n)) (text-bound s n h)
+      (part-slice (s .text) (textBytes (take n (entries s))) (textBytes (take n (entries s)) + ownBytes (treeAt (entries s) n)) (omega arith) (omega (arith, text-bound s n h))
       ∙ text-at s (entries s) (h .valid) n (h .within) ∙ token-text (treeAt (entries s) n) d)
 
 -- child_at, by what `element` answered
@@ -170,23 +176,17 @@ module _ {s : Store} (v : Valid s) (n : ℕ) {l : Lookup} (told : lookedUp l ≡
         child-past h = child-outside s m k (node-known .0) (node-known .1) (omega arith) ∙ ap (λ y. childOf (entries s) y k) same-number
 
         pub child-index : k < c → k < length (entryAt (entries s) m .children)
-        child-index h = omega (arith, node-count (entryAt (entries s) m) (node-known .1))
+        child-index h = omega (arith, count-node (node-known .0) (node-known .1))
 
         pub child-here : k < c → {p : Place} → p ≡ placeOf (entries s) m k → ok p ≡ childOf (entries s) n k
         child-here h {p} q = child-within s m k (node-known .0) (node-known .1) (omega arith) p q ∙ ap (λ y. childOf (entries s) y k) same-number
 
--- summarize
-pub treesAt-count : (es : List Entry) (ns : List ℕ) → count (treesAt es ns) ≡ length ns
-unfolding count treesAt
-treesAt-count es [] = refl
-treesAt-count es (n ∷ ns) = ap suc (treesAt-count es ns)
-
 token-childless : (t : Tree) → isNode t ≡ false → 0 ≡ count (childrenOf t)
 unfolding isNode childrenOf count
 token-childless (token k b) e = refl
-token-childless (node k f) e = absurd (let z : _≡_ {A = ℕ} 0 1 = cc in omega arith)
+token-childless (node k f) e = absurd (false≢true (sym e))
 
-pub no-summary : (s : Store) → Valid s → (n : ℕ) → getD (s .used) 0 0 ≤ n → refused 4 ≡ keptOf (entries s) n
+pub no-summary : (s : Store) → Valid s → (n : ℕ) → getD (s .used) 0 0 ≤ n → refused 4 ≡ fieldsOf (entries s) n
 no-summary s v n h = rw (absent (entries s) n (omega (arith, count-records s v)))
 
 module _ (s : Store) (n : ℕ) (h : Known s n) where
@@ -195,12 +195,12 @@ module _ (s : Store) (n : ℕ) (h : Known s n) where
 
   pub node-children : {b : Bool} {c : ℕ} → b ≡ isNode it → c ≡ ownCount (entryAt (entries s) n) → b ≡ true → c ≡ count (childrenOf it)
   node-children p q d =
-      q ∙ node-count (entryAt (entries s) n) (sym p ∙ d)
+      q ∙ count-node h (sym p ∙ d)
       ∙ sym (ap count (h .valid .formed n (h .within) .over) ∙ treesAt-count (entries s) (entryAt (entries s) n .children))
 
   pub token-children : {b : Bool} → b ≡ isNode it → b ≡ false → 0 ≡ count (childrenOf it)
   token-children p d = token-childless it (sym p ∙ d)
 
   pub a-summary : {b : Bool} {k l z y w c : ℕ} → b ≡ isNode it → k ≡ kind it → l ≡ textLen it → z ≡ size it → y ≡ height it → w ≡ hash it → c ≡ count (childrenOf it)
-      → ok (record { isNode = b; kind = k; len = l; size = z; height = y; hash = w; children = c }) ≡ keptOf (entries s) n
+      → ok (record { isNode = b; kind = k; len = l; size = z; height = y; hash = w; children = c }) ≡ fieldsOf (entries s) n
   a-summary p q r t u v x = rw (present (entries s) n (h .within), p, q, r, t, u, v, x)

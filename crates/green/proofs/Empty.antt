@@ -3,14 +3,14 @@ use Prim.Native.Nat.{ℕ}
 use native.Mathlib.Omega.{arith}
 use mathlib.Core.Path.{_≡_, refl}
 use mathlib.Core.Bool.{false}
-use mathlib.Core.List.{List, [], _∷_, flatMap}
+use mathlib.Core.List.{List, [], flatMap}
 use borrow.Author.Tests.{le-ltb}
 use lib.Dec.{ltb}
 use Rattle.definitions.specs.Entry.{childPlaces, textBytes}
 use Rattle.definitions.specs.Refusal.{exceedsRoom, isOverfull}
 use Rattle.green.specs.Layout.{allRecords, allChildren, allText}
-use Rattle.green.specs.Store.{Store, countsOf, store, lent, entries, entriesTo}
-use Rattle.green.specs.Valid.{Holds, Valid}
+use Rattle.green.specs.Store.{Store, countsOf, store, entries, entriesTo}
+use Rattle.green.specs.Valid.{Encodes, Valid}
 
 none : (n : ℕ) → ltb n 0 ≡ false
 none n = le-ltb n 0 (omega arith)
@@ -23,7 +23,7 @@ module _ (records children text : List ℕ) where
   unfolding entries entriesTo
   empty-entries = refl
 
-  holds : Holds empty []
+  holds : Encodes empty []
   unfolding childPlaces textBytes allRecords allChildren allText flatMap isOverfull exceedsRoom
   holds = record {
     counts = refl;

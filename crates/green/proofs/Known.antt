@@ -6,15 +6,15 @@ use mathlib.Core.List.{_∷_, _++_}
 use mathlib.Core.Bool.{Bool, true, false, cond}
 use lib.ListN.{length, getD, take, drop}
 use lib.Seq.{split-at}
-use Rattle.definitions.specs.Tree.{Tree, token, node, kind, isNode}
 use lib.Dec.{ltb}
+use Rattle.definitions.specs.Tree.{Tree, token, node, kind, isNode}
 use Rattle.definitions.specs.Entry.{Entry, absent, entryAt, treeAt, childPlaces, textBytes, ownBytes}
 use Rattle.definitions.proofs.Limits.{Room, entries-room}
+use Rattle.definitions.proofs.Entries.{childPlaces-append, textBytes-append}
 use Rattle.green.specs.Layout.{tag, wordsOf}
 use Rattle.green.specs.Store.{Store, lent, entries}
 use Rattle.green.specs.Valid.{Valid, Known}
 use Rattle.green.proofs.Lists.{slice-at}
-use Rattle.green.proofs.Written.{childPlaces-append, textBytes-append}
 use Rattle.green.proofs.Reading.{words-at}
 
 -- the counts that are lent are those of the entries

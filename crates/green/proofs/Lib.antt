@@ -3,5 +3,6 @@ pub mod Written
 pub mod Offsets
 pub mod Reading
 pub mod Known
+pub mod Untouched
 pub mod Answering
 pub mod Empty

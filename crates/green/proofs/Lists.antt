@@ -4,7 +4,7 @@ use native.Mathlib.Omega.{arith}
 use mathlib.Core.Path.{_≡_, refl, sym, ap, _∙_}
 use mathlib.Core.List.{List, [], _∷_, _++_, append-assoc, flatMap}
 use lib.ListN.{length, getD, take, drop, length-append, length-take}
-use lib.Seq.{slice, take-take, take-at, drop-at, take-add, length-take-le, getD-drop, getD-take}
+use lib.Seq.{slice, take-take, take-at, drop-at, take-add, length-take-le, getD-drop, getD-take, drop-drop}
 
 -- a part of a list that starts with a, b and c, in order
 pub slice-mid : {A : Type 0} (l a b c : List A) (n : ℕ) → take n l ≡ a ++ (b ++ c) → slice (length a) (length a + length b) l ≡ b
@@ -22,10 +22,16 @@ pub slice-at : {A : Type 0} (l : List A) (from to i : ℕ) (d : A) → from + i 
 slice-at l from to i d h = getD-drop from (take to l) i d ∙ getD-take to l (from + i) d h
 
 -- a part in the language's spelling
-pub part-slice : {A : Type 0} (l : List A) (from n : ℕ) → from + n ≤ length l → take (from + n - from) (drop from l) ≡ slice from (from + n) l
-part-slice l from n h =
-    let e : from + n - from ≡ n = omega arith in
-    rw (e, take-add from n l) (sym (drop-at (take from l) (take n (drop from l)) from (length-take-le from l (omega arith))))
+pub part-slice : {A : Type 0} (l : List A) (from to : ℕ) → from ≤ to → from ≤ length l → take (to - from) (drop from l) ≡ slice from to l
+part-slice l from to h k =
+    let z : from + (to - from) ≡ to = omega arith in
+    sym (drop-at (take from l) _ from (length-take-le from l k)) ∙ ap (drop from) (sym (take-add from (to - from) l) ∙ ap (λ i. take i l) z)
+
+-- lists that agree past a place agree past a later one
+pub same-past : {A : Type 0} (l m : List A) (a b : ℕ) → a ≤ b → drop a l ≡ drop a m → drop b l ≡ drop b m
+same-past l m a b h e =
+    let q : b ≡ a + (b - a) = omega arith in
+    rw q (sym (drop-drop (b - a) a l) ∙ ap (drop (b - a)) e ∙ drop-drop (b - a) a m)
 
 pub flatMap-append : {A B : Type 0} (f : A → List B) (xs ys : List A) → flatMap f (xs ++ ys) ≡ flatMap f xs ++ flatMap f ys
 unfolding flatMap

@@ -11,7 +11,7 @@ use Rattle.definitions.specs.Entry.{Entry, absent, entryAt, treeAt, treesAt, ch
 use Rattle.definitions.proofs.Limits.{entries-room}
 use Rattle.green.specs.Layout.{tag, ownCount, ownFirst, recordWords, wordsOf, childWords, ownText, allRecords, allChildren, allText}
 use Rattle.green.specs.Store.{Store, lent, wordsAt, numbers, tagged, entryIn, entriesTo, entries}
-use Rattle.green.specs.Valid.{Holds}
+use Rattle.green.specs.Valid.{Encodes}
 use Rattle.green.proofs.Lists.{slice-mid}
 use Rattle.green.proofs.Written.{allRecords-append, allChildren-append, allText-append, allRecords-length, allChildren-length, allText-length, ownText-length, childWords-length, childWords-numbers, treesAt-append}
 
@@ -37,7 +37,7 @@ module _ (es : List Entry) (first : ℕ) (cs tx : List ℕ) where
       rw (q, r) (cc (hn refl, hc))
 
 -- the places of record i, and what the entries before it use
-module _ (s : Store) (es : List Entry) (h : Holds s es) (i : ℕ) (l : i < length es) where
+module _ (s : Store) (es : List Entry) (h : Encodes s es) (i : ℕ) (l : i < length es) where
   parts : es ≡ take i es ++ (entryAt es i ∷ drop (suc i) es)
   parts = split-at es i absent l
 
@@ -77,7 +77,7 @@ unfolding ownFirst
 ownFirst-token c t e h = rw h
 
 -- the words of record n spell the entry that is held there
-spells : (s : Store) (es : List Entry) → Holds s es → (n : ℕ) → n < length es
+spells : (s : Store) (es : List Entry) → Encodes s es → (n : ℕ) → n < length es
     → entryIn (take n es) (wordsAt (s .records) n) (s .children) (s .text) ≡ entryAt es n
 spells s es h n l =
     let e = entryAt es n in
@@ -93,7 +93,7 @@ spells s es h n l =
     (childWords-numbers n (e .children) (childrenOf (e .tree)) 0 few (f .below)))
     (λ q. rw (ownFirst-token (childPlaces (take n es)) (textBytes (take n es)) e q) (text-at s es h n l)))
 
-spells-to : (s : Store) (es : List Entry) → Holds s es → (n : ℕ) → n ≤ length es → entriesTo s n ≡ take n es
+spells-to : (s : Store) (es : List Entry) → Encodes s es → (n : ℕ) → n ≤ length es → entriesTo s n ≡ take n es
 unfolding entriesTo
 spells-to s es h zero l = refl
 spells-to s es h (suc n) l =
@@ -102,7 +102,7 @@ spells-to s es h (suc n) l =
     rw (ih, spells s es h n p) (sym (take-suc es n absent p))
 
 -- a store spells what it holds
-pub denotes : (s : Store) (es : List Entry) → Holds s es → entries s ≡ es
+pub denotes : (s : Store) (es : List Entry) → Encodes s es → entries s ≡ es
 unfolding entries
 denotes s es h =
     let c : getD (s .used) 0 0 ≡ length es = ap (λ u. getD u 0 0) (h .counts) in

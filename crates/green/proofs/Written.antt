@@ -11,16 +11,6 @@ use Rattle.green.specs.Store.{numbers}
 use Rattle.green.specs.Valid.{AllBelow}
 use Rattle.green.proofs.Lists.{flatMap-append}
 
-pub childPlaces-append : (es xs : List Entry) → childPlaces (es ++ xs) ≡ childPlaces es + childPlaces xs
-unfolding childPlaces
-childPlaces-append [] xs = omega arith
-childPlaces-append (e ∷ es) xs = omega (arith, childPlaces-append es xs)
-
-pub textBytes-append : (es xs : List Entry) → textBytes (es ++ xs) ≡ textBytes es + textBytes xs
-unfolding textBytes
-textBytes-append [] xs = omega arith
-textBytes-append (e ∷ es) xs = omega (arith, textBytes-append es xs)
-
 pub allText-append : (es xs : List Entry) → allText (es ++ xs) ≡ allText es ++ allText xs
 unfolding allText
 allText-append es xs = flatMap-append (λ e. ownText (e .tree)) es xs

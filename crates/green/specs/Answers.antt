@@ -34,7 +34,7 @@ abbrev pub elementOf : List Entry → ℕ → Result Named
 elementOf es n = cond (isAbsent es n) (refused 4) (ok (record { number = n; isNode = isNode (treeAt es n) }))
 
 -- what a record keeps of an element
-pub record Kept : Type 0 where
+pub record RecordFields : Type 0 where
   pub isNode : Bool
   pub kind : ℕ
   pub len : ℕ
@@ -43,18 +43,18 @@ pub record Kept : Type 0 where
   pub hash : ℕ
   pub children : ℕ
 
-abbrev pub kept : Tree → Kept
-kept t = record { isNode = isNode t; kind = kind t; len = textLen t; size = size t; height = height t; hash = hash t; children = count (childrenOf t) }
+abbrev pub recordFields : Tree → RecordFields
+recordFields t = record { isNode = isNode t; kind = kind t; len = textLen t; size = size t; height = height t; hash = hash t; children = count (childrenOf t) }
 
-abbrev pub summaryOf : Summary → Kept
+abbrev pub summaryOf : Summary → RecordFields
 summaryOf x = record { isNode = x .«is_node»; kind = x .kind .0; len = x .len; size = x .size; height = x .height; hash = x .hash; children = x .children }
 
-abbrev pub summarized : Summarized → Result Kept
+abbrev pub summarized : Summarized → Result RecordFields
 summarized (Of x) = ok (summaryOf x)
 summarized (summary.Refused r) = refused (refusalNumber r)
 
-abbrev pub keptOf : List Entry → ℕ → Result Kept
-keptOf es n = cond (isAbsent es n) (refused 4) (ok (kept (treeAt es n)))
+abbrev pub fieldsOf : List Entry → ℕ → Result RecordFields
+fieldsOf es n = cond (isAbsent es n) (refused 4) (ok (recordFields (treeAt es n)))
 
 -- a child: its number, and its offset in its node
 pub record Place : Type 0 where

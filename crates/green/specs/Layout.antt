@@ -6,6 +6,7 @@ use lib.ListN.{length, take}
 use Rattle.definitions.specs.Tree.{Tree, token, node, Forest, nil, cons, kind, isNode, childrenOf, textLen, size, height}
 use Rattle.definitions.specs.Hash.{hash}
 use Rattle.definitions.specs.Entry.{Entry, entryAt, childPlaces, textBytes, ownBytes}
+use Rattle.green.specs.declared.record.Header.{Header}
 
 -- 0 a token, 1 a node that an event made, 2 a node that an edit made
 unfoldable pub tag : Entry → ℕ
@@ -23,6 +24,10 @@ ownFirst c t e = cond (isNode (e .tree)) c t
 abbrev pub recordWords : ℕ → Entry → List ℕ
 recordWords first e =
     (kind (e .tree) + 2 ^ 16 * tag e) ∷ first ∷ ownCount e ∷ textLen (e .tree) ∷ size (e .tree) ∷ height (e .tree) ∷ hash (e .tree) ∷ 0 ∷ []
+
+-- the words that are written of a new record
+abbrev pub headerWords : Header → List ℕ
+headerWords h = (h .kind .0 + 65536 * h .tag) ∷ h .first ∷ h .count ∷ h .len ∷ h .size ∷ h .height ∷ h .hash ∷ 0 ∷ []
 
 -- where the places of entry n start, and the words of its record
 abbrev pub firstOf : List Entry → ℕ → ℕ

@@ -1,8 +1,9 @@
 -- The store: four lent places, and the list of entries that they spell.
 use Prim.Native.Nat.{ℕ, zero, suc, _+_, _*_, _/_, _%_, _^_}
+use mathlib.Core.Path.{_≡_}
 use mathlib.Core.List.{List, [], _∷_, _++_, map}
 use mathlib.Core.Bool.{true, false}
-use lib.ListN.{length, getD}
+use lib.ListN.{length, getD, drop}
 use lib.Seq.{slice}
 use denote.Ref.{RefT, now}
 use denote.Triple.Both.{Both}
@@ -73,3 +74,9 @@ entriesTo s (suc n) = entriesTo s n ++ (entryIn (entriesTo s n) (wordsAt (s .rec
 -- THE DENOTATION: the entries that a store spells
 unfoldable pub entries : Store → List Entry
 entries s = entriesTo s (getD (s .used) 0 0)
+
+-- no place past those in use after a call was written
+pub record Untouched (s s′ : Store) : Type 0 where
+  pub records : drop (getD (s′ .used) 0 0 * 8) (s′ .records) ≡ drop (getD (s′ .used) 0 0 * 8) (s .records)
+  pub children : drop (getD (s′ .used) 1 0) (s′ .children) ≡ drop (getD (s′ .used) 1 0) (s .children)
+  pub text : drop (getD (s′ .used) 2 0) (s′ .text) ≡ drop (getD (s′ .used) 2 0) (s .text)

@@ -35,7 +35,7 @@ pub record Shared (es : List Entry) : Type 0 where
   pub events : (i : ℕ) → i < length es → entryAt es i .event ≡ true → AllEvents es (entryAt es i .children)
 
 -- the places in use are what es is written as
-pub record Holds (s : Store) (es : List Entry) : Type 0 where
+pub record Encodes (s : Store) (es : List Entry) : Type 0 where
   pub counts : s .used ≡ countsOf (length es) (childPlaces es) (textBytes es)
   pub records : take (length es * 8) (s .records) ≡ allRecords 0 0 es
   pub children : take (childPlaces es) (s .children) ≡ allChildren es
@@ -46,7 +46,7 @@ pub record Holds (s : Store) (es : List Entry) : Type 0 where
 
 -- THE INVARIANT: a store is in order
 abbrev pub Valid : Store → Type 0
-Valid s = Holds s (entries s)
+Valid s = Encodes s (entries s)
 
 -- and a number that names an entry
 pub record Known (s : Store) (n : ℕ) : Type 0 where

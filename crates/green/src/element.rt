@@ -3,7 +3,7 @@
 ghost use mathlib.Core.Path.{_≡_};
 ghost use Rattle.green.specs.Store.{here, entered, entries};
 ghost use Rattle.green.specs.Valid.{Valid};
-ghost use Rattle.green.specs.Answers.{lookedUp, elementOf, summarized, keptOf};
+ghost use Rattle.green.specs.Answers.{lookedUp, elementOf, summarized, fieldsOf};
 use crate::Counts;
 use crate::record;
 use utility_types::NodeOrToken;
@@ -53,7 +53,7 @@ pub fn summarize(
     n: usize,
 ) -> Summarized
     requires { ⌜ Valid (here records children text used) ⌝ }
-    ensures { λ r. ⌜ summarized r ≡ keptOf (entries (entered records children text used)) n ⌝ }
+    ensures { λ r. ⌜ summarized r ≡ fieldsOf (entries (entered records children text used)) n ⌝ }
 {
     if used[0] <= n {
         return Summarized::Refused(Refusal::NoSuchElement);

@@ -1,4 +1,4 @@
-// rowan's green/node.rs: a node's children.
+// rowan's green/node.rs: a node's children. For the crates above: `nth_child` asks for a child that is there.
 
 ghost use mathlib.Core.Path.{_≡_};
 ghost use mathlib.Core.Bool.{true};

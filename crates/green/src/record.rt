@@ -1,13 +1,14 @@
-// A record's words: head (kind + 2^16 * tag), first, count, length, size, height, hash, and one to spare.
-// Each is read by a function of its own, so that no other module knows its place.
+// For the crates above: a record's words, head (kind + 2^16 * tag), first, count, length, size, height, hash, and one to spare.
+// They are written by one function, and each is read by one of its own, so that no other module knows their places.
 
 ghost use mathlib.Core.Path.{_≡_};
-ghost use Prim.Native.Nat.{_<_};
-ghost use lib.ListN.{getD};
+ghost use Prim.Native.Nat.{_+_, _*_, _≤_, _<_};
+ghost use lib.ListN.{length, getD};
+ghost use lib.Seq.{sets};
 ghost use Rattle.definitions.specs.Tree.{kind, isNode, textLen, size, height};
 ghost use Rattle.definitions.specs.Hash.{hash};
 ghost use Rattle.definitions.specs.Entry.{entryAt, treeAt};
-ghost use Rattle.green.specs.Layout.{tag, ownCount, firstOf, wordsOf};
+ghost use Rattle.green.specs.Layout.{tag, ownCount, headerWords, firstOf, wordsOf};
 ghost use Rattle.green.specs.Store.{here, entered, entries};
 ghost use Rattle.green.specs.Valid.{Known};
 use crate::Counts;
@@ -91,4 +92,41 @@ pub fn hash_of(records: &[u64], children: &[u64], text: &[u8], used: &Counts, n:
     ensures { λ r. ⌜ r ≡ hash (treeAt (entries (entered records children text used)) n) ⌝ }
 {
     word(records, children, text, used, n, 6)
+}
+
+// What a new record keeps of its element; the tag is 0 for a token, 1 for a node that an event makes, 2 for a node that an edit makes.
+pub struct Header {
+    pub kind: SyntaxKind,
+    pub tag: u8,
+    pub first: usize,
+    pub count: usize,
+    pub len: usize,
+    pub size: usize,
+    pub height: usize,
+    pub hash: u64,
+}
+
+// For the crates above: the eight words of record `n`.
+pub fn put_record(records: &mut [u64], n: usize, header: Header)
+    requires { ⌜ n * 8 + 8 ≤ length (now records) ⌝ }
+    ensures { λ _. ⌜ now (records .exit) ≡ sets (now (records .entry)) (n * 8) (headerWords header) ⌝ }
+{
+    let at = n * 8;
+    let kind = header.kind;
+    records[at] = kind.0 as u64 + 65536 * header.tag as u64;
+    records[at + 1] = header.first as u64;
+    records[at + 2] = header.count as u64;
+    records[at + 3] = header.len as u64;
+    records[at + 4] = header.size as u64;
+    records[at + 5] = header.height as u64;
+    records[at + 6] = header.hash;
+    records[at + 7] = 0;
+}
+
+// For the crates above: the length word of record `n`, while child places are being written.
+pub fn len_at(records: &[u64], n: usize) -> usize
+    requires { ⌜ n * 8 + 8 ≤ length (now records) ⌝ }
+    ensures { λ r. ⌜ r ≡ getD (now (records .entry)) (n * 8 + 3) 0 ⌝ }
+{
+    records[n * 8 + 3] as usize
 }

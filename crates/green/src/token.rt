@@ -1,4 +1,4 @@
-// rowan's green/token.rs: a token's bytes.
+// For the crates above: the bytes of a token that is there, rowan's green/token.rs.
 
 ghost use mathlib.Core.Path.{_≡_};
 ghost use mathlib.Core.Bool.{false};

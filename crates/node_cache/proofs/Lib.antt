@@ -1,7 +1,5 @@
-pub mod Finding
-pub mod Comparing
 pub mod SameToken
 pub mod Events
-pub mod Hashing
+pub mod TokenEvents
 pub mod SameNode
 pub mod NodeEvents

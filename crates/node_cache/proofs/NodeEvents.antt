@@ -1,58 +1,88 @@
 -- What a finish-node event has done, by what `hash_node` and `find_node` answered. Assumes nothing.
-use Prim.Native.Nat.{ℕ}
-use mathlib.Core.Path.{_≡_, refl, sym, _∙_}
+use Prim.Native.Nat.{ℕ, _≤_, _<_}
+use mathlib.Core.Path.{_≡_, refl, sym, ap, _∙_}
 use mathlib.Core.List.{List, [], _∷_}
-use mathlib.Core.Bool.{Bool, true, false}
+use mathlib.Core.Bool.{Bool, true, false, not, Bool·not-not}
 use mathlib.Core.Option.{none}
-use lib.ListN.{length}
-use Rattle.definitions.specs.Tree.{Tree, node}
-use Rattle.definitions.specs.Hash.{hash, sharable}
-use Rattle.definitions.specs.Entry.{Entry, nodeEntry, treesAt}
-use Rattle.definitions.specs.NodeCache.{findFrom, reuse, push, share}
-use Rattle.utility_types.specs.declared.Made.the-variants.{Number}
+use lib.ListN.{length, getD}
+use borrow.Author.Tests.{lt-ltb, not-true, not-false}
+use Rattle.definitions.specs.Tree.{node, childrenOf}
+use Rattle.definitions.specs.Hash.{sharable}
+use Rattle.definitions.specs.Entry.{Entry, nodeEntry, treesAt, ownBytes}
+use Rattle.definitions.specs.Refusal.{exceedsLimits, isTooLarge}
+use Rattle.definitions.specs.NodeCache.{findFrom, reuse, share}
+use Rattle.definitions.proofs.Entries.{treesAt-count}
+use Rattle.definitions.proofs.Sharing.{event-there}
+use Rattle.utility_types.specs.declared.Refusal.the-variants.{TooLarge, NoRoom}
+use Rattle.utility_types.specs.declared.Made.the-variants.{Number, Refused}
 use Rattle.green.specs.Store.{Store, entries, lent}
 use Rattle.green.specs.Valid.{AllBelow, AllEvents, Valid}
-use Rattle.green_new.specs.Ready.{NodeFresh}
+use Rattle.green_new.specs.Ready.{SumsOf, withinLimits, hasRoom, NodeReady, Pushed}
 use Rattle.green_new.specs.Done.{Done}
-use Rattle.green_new.proofs.Sharing.{event-there}
-use Rattle.node_cache.specs.Search.{found, NodeSought}
+use Rattle.green_new.specs.declared.node.Sums.{Sums}
+use Rattle.green_new.proofs.Making.{node-limits}
+use Rattle.node_cache.specs.Search.{found, HashOf, NodeSought}
+use Rattle.node_cache.specs.declared.hash.Hashed.{Hashed}
 use Rattle.node_cache.specs.declared.search.Search.{Search}
-use Rattle.node_cache.specs.declared.search.Search.the-variants.{Found, Missing}
-use Rattle.node_cache.proofs.Events.{event-found, event-missing, event-new}
+use Rattle.node_cache.specs.declared.search.Search.the-variants.{Missing}
+use Rattle.node_cache.proofs.Events.{event-missing, event-large, event-full, event-room, event-made}
 
 pub events-below : (es : List Entry) (ns : List ℕ) → AllEvents es ns → AllBelow (length es) ns
 unfolding AllEvents AllBelow
 events-below es [] h = tt
 events-below es (n ∷ ns) h = (event-there es n (h .0), events-below es ns (h .1))
 
-rare : (es : List Entry) (t : Tree) → sharable t ≡ false → reuse es t ≡ none
-unfolding reuse
-rare es t h = rw h
+-- find_node, by whether the node is shared
+module _ {es : List Entry} {k : ℕ} {ns : List ℕ} {x : Hashed} (h : HashOf es k ns x) where
+  pub unshared : not (x .«is_sharable») ≡ true → none ≡ reuse es (node k (treesAt es ns))
+  unfolding reuse
+  unshared q = rw (sym (h .sharable) ∙ not-true _ q)
 
-module _ {s : Store} (v : Valid s) (k : ℕ) (ns : List ℕ) (made : AllEvents (entries s) ns) where
-  abbrev t : Tree
-  t = node k (treesAt (entries s) ns)
+  module _ (q : not (x .«is_sharable») ≡ false) where
+    is-shared : sharable (node k (treesAt es ns)) ≡ true
+    is-shared = sym (h .sharable) ∙ not-false _ q
 
+    pub node-sought : AllEvents es ns → NodeSought es k ns (x .hash)
+    node-sought made = record { sharable = is-shared; events = made; hash = h .hash }
+
+    pub node-reused : findFrom (node k (treesAt es ns)) es 0 ≡ reuse es (node k (treesAt es ns))
+    unfolding reuse
+    node-reused = rw is-shared
+
+module _ {s : Store} (v : Valid s) (k : ℕ) (ns : List ℕ) (r : Search) (f : found r ≡ reuse (entries s) (node k (treesAt (entries s) ns))) (p : r ≡ Missing) where
   abbrev e : Entry
   e = nodeEntry true (entries s) k ns
 
-  module _ {b : Bool} {h : ℕ} (p : b ≡ sharable t) (q : h ≡ hash t) where
-    fresh : reuse (entries s) t ≡ none → NodeFresh s true k ns h
-    fresh n = record { valid = v; below = events-below (entries s) ns made; fresh = λ _. n; events = λ _. made; hash = q }
+  pub node-many : 4096 < length ns → Done s s (share (lent s) (entries s) e) (Refused TooLarge)
+  unfolding isTooLarge exceedsLimits childrenOf
+  node-many l = event-large v e r f p (rw (treesAt-count (entries s) ns, lt-ltb 4096 (length ns) l))
 
-    pub node-rare : b ≡ false → NodeFresh s true k ns h
-    node-rare x = fresh (rare (entries s) t (sym p ∙ x))
+  module _ (few : length ns ≤ 4096) {x : Sums} (sums : SumsOf (treesAt (entries s) ns) x) {w : Bool} (within : (c : ℕ) → c ≤ 4096 → w ≡ withinLimits c x) where
+    limits : not w ≡ isTooLarge (e .tree)
+    limits = ap not (within (length ns) few) ∙ Bool·not-not _ ∙ sym (node-limits k sums (sym (treesAt-count (entries s) ns)))
 
-    module _ (x : b ≡ true) where
-      pub node-sought : NodeSought (entries s) k ns h
-      node-sought = record { sharable = sym p ∙ x; events = made; hash = q }
+    pub node-large : not w ≡ true → Done s s (share (lent s) (entries s) e) (Refused TooLarge)
+    node-large q = event-large v e r f p (sym limits ∙ q)
 
-      module _ (r : Search) (f : found r ≡ findFrom t (entries s) 0) where
-        pub node-found : {n : ℕ} → r ≡ Found n → Done s s (share (lent s) (entries s) e) (Number n)
-        node-found y = event-found v e (sym p ∙ x) r f y
+    module _ (fits : not w ≡ false) {b : Bool} (room : b ≡ hasRoom s (length ns) 0) where
+      small : isTooLarge (e .tree) ≡ false
+      small = sym limits ∙ fits
 
-        pub node-missing : r ≡ Missing → NodeFresh s true k ns h
-        node-missing y = fresh (event-missing v e (sym p ∙ x) r f y)
+      own : 0 ≡ ownBytes (e .tree)
+      unfolding ownBytes
+      own = refl
 
-  pub node-new : {h : ℕ} → NodeFresh s true k ns h → share (lent s) (entries s) e ≡ push (lent s) (entries s) (e ∷ []) (length (entries s))
-  node-new f = event-new v e (f .fresh refl)
+      pub node-full : not b ≡ true → Done s s (share (lent s) (entries s) e) (Refused NoRoom)
+      node-full q = event-full v e r f p small refl own room q
+
+      module _ (q : not b ≡ false) where
+        pub node-ready : AllEvents (entries s) ns → {y : Hashed} → HashOf (entries s) k ns y → NodeReady s true k ns x (y .hash)
+        node-ready made h = record {
+          new = record { valid = v; below = events-below (entries s) ns made; fresh = λ _. event-missing v e r f p; events = λ _. made; hash = h .hash };
+          sums = sums;
+          small = small;
+          room = event-room v e r f p small refl own room q;
+        }
+
+        pub node-made : {s′ : Store} → Pushed s s′ e → Done s s′ (share (lent s) (entries s) e) (Number (getD (s .used) 0 0))
+        node-made u = event-made v e r f p small refl own room q u

@@ -12,12 +12,12 @@ use Rattle.definitions.specs.Hash.{hash, hashes, sharable, sharableOver, nodeHa
 use Rattle.definitions.specs.Entry.{Entry, entryAt, treeAt, treesAt}
 use Rattle.definitions.specs.NodeCache.{matches}
 use Rattle.definitions.proofs.Laws.{false≢true, and-left, and-right, and-both, sameNumbers-refl, sameNumbers-eq, same-refl, same-eq}
+use Rattle.definitions.proofs.Sharing.{event-there}
+use Rattle.definitions.proofs.Comparing.{is-false, unequal-lengths, Compared, compared-start, compared-differ, compared-next}
 use Rattle.green.specs.Layout.{tag, ownCount}
 use Rattle.green.specs.Store.{Store, entries}
 use Rattle.green.specs.Valid.{AllEvents, Shared, Known}
-use Rattle.green_new.proofs.Sharing.{event-there}
 use Rattle.node_cache.specs.Search.{NodeSought}
-use Rattle.node_cache.proofs.Comparing.{is-false, unequal-lengths, Compared, compared-start, compared-differ, compared-next}
 
 bool-ext : (a b : Bool) → (a ≡ true → b ≡ true) → (b ≡ true → a ≡ true) → a ≡ b
 bool-ext true b f g = sym (f refl)

@@ -9,9 +9,9 @@ use Rattle.definitions.specs.Hash.{tokenHash, hash}
 use Rattle.definitions.specs.Entry.{Entry, entryAt}
 use Rattle.definitions.specs.NodeCache.{matches}
 use Rattle.definitions.proofs.Laws.{false≢true, and-right, same-eq}
+use Rattle.definitions.proofs.Comparing.{is-false}
 use Rattle.green.specs.Store.{Store, entries}
 use Rattle.green.specs.Valid.{Known}
-use Rattle.node_cache.proofs.Comparing.{is-false}
 
 -- an entry that differs in anything from t does not match it
 pub differs : {A : Type 0} (f : Tree → A) (t : Tree) (e : Entry) → (f (e .tree) ≡ f t → ⊥) → false ≡ matches t e

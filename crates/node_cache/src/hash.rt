@@ -1,21 +1,47 @@
-// rowan's node_hash: a node's hash from its children's, and whether it is looked for at all.
+// For the crates above, rowan's node_hash: a node's hash from its children's, and whether it is looked for at all.
 
 ghost use mathlib.Core.Path.{_≡_};
-ghost use Rattle.definitions.specs.Tree.{node};
-ghost use Rattle.definitions.specs.Hash.{hash, sharable};
-ghost use Rattle.definitions.specs.Entry.{treesAt};
+ghost use Prim.Native.Nat.{_≤_};
+ghost use Rattle.definitions.specs.Hash.{sharableOver, nodeHash};
 ghost use Rattle.green.specs.Store.{here, entered, entries};
 ghost use Rattle.green.specs.Valid.{AllBelow, Valid};
 ghost use lib.ListN.{length};
+ghost use Rattle.node_cache.specs.Search.{HashOf};
 use green::Counts;
 use green::record;
 use utility_types::SyntaxKind;
+use utility_types::number;
 
 pub struct Hashed {
     pub is_sharable: bool,
     pub hash: u64,
 }
 
+// Of a node over children of these hashes. A child that is not shared has hash 0, and then neither is the node.
+pub fn node_hash(kind: SyntaxKind, hashes: &[u64]) -> Hashed
+    requires { ⌜ length (now hashes) ≤ 3 ⌝ }
+    ensures { λ r. ⌜ r .«is_sharable» ≡ sharableOver (now (hashes .entry)) ⌝ }
+    ensures { λ r. ⌜ r .hash ≡ nodeHash (kind .0) (now (hashes .entry)) ⌝ }
+{
+    let mut h = fx_hash::kind_hash(kind);
+    let mut i = 0;
+    while i < hashes.len() {
+        if hashes[i] == 0 {
+            return Hashed {
+                is_sharable: false,
+                hash: 0,
+            };
+        }
+        h = fx_hash::add_word(h, hashes[i]);
+        i += 1;
+    }
+    Hashed {
+        is_sharable: true,
+        hash: h,
+    }
+}
+
+// Of a node over these children: a large one is not shared.
 pub fn hash_node(
     records: &[u64],
     children: &[u64],
@@ -26,8 +52,7 @@ pub fn hash_node(
 ) -> Hashed
     requires { ⌜ Valid (here records children text used) ⌝ }
     requires { ⌜ AllBelow (length (entries (here records children text used))) (now numbers) ⌝ }
-    ensures { λ r. ⌜ r .«is_sharable» ≡ sharable (node (kind .0) (treesAt (entries (entered records children text used)) (now (numbers .entry)))) ⌝ }
-    ensures { λ r. ⌜ r .hash ≡ Rattle.definitions.specs.Hash.hash (node (kind .0) (treesAt (entries (entered records children text used)) (now (numbers .entry)))) ⌝ }
+    ensures { λ r. ⌜ HashOf (entries (entered records children text used)) (kind .0) (now (numbers .entry)) r ⌝ }
 {
     let n = numbers.len();
     if 3 < n {
@@ -39,17 +64,8 @@ pub fn hash_node(
     let mut hashes = [0u64; 3];
     let mut i = 0;
     while i < n {
-        hashes[i] = record::hash_of(
-            records,
-            children,
-            text,
-            used,
-            green_new::node::widen(numbers[i]),
-        );
+        hashes[i] = record::hash_of(records, children, text, used, number::widen(numbers[i]));
         i += 1;
     }
-    Hashed {
-        is_sharable: fx_hash::is_sharable(&hashes[..n]),
-        hash: fx_hash::node_hash(kind, &hashes[..n]),
-    }
+    node_hash(kind, &hashes[..n])
 }

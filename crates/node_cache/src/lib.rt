@@ -1,20 +1,42 @@
 // rowan's green/node_cache.rs: an event's element is found among those that events made, or made.
-// The search is behind two functions of `search`, whose contracts name the first match among the entries.
+// The search is behind two functions of `search`, whose contracts name the entry that is reused.
 
+ghost use mathlib.Core.Path.{_≡_};
 ghost use mathlib.Core.Bool.{true};
+ghost use Prim.Native.Nat.{_≤_};
 ghost use Rattle.definitions.specs.Entry.{tokenEntry, nodeEntry};
 ghost use Rattle.definitions.specs.NodeCache.{share};
-ghost use Rattle.green.specs.Store.{here, entries, stores};
+ghost use Rattle.green.specs.Store.{here, entered, entries, stores};
 ghost use Rattle.green.specs.Valid.{AllEvents, Valid};
+ghost use Rattle.green_new.specs.Ready.{hasRoom};
 ghost use Rattle.green_new.specs.Done.{Does};
 
 pub mod hash;
 pub mod search;
 
 use green::Counts;
+use green_new::limits;
+use green_new::node;
+use green_new::token;
 use search::Search;
 use utility_types::Made;
+use utility_types::Refusal;
 use utility_types::SyntaxKind;
+
+// Whether an event may make one record more, with so many child places and text bytes.
+fn has_event_room(
+    records: &[u64],
+    children: &[u64],
+    text: &[u8],
+    used: &Counts,
+    places: usize,
+    bytes: usize,
+) -> bool
+    requires { ⌜ Valid (here records children text used) × (places ≤ 4294967295) × (bytes ≤ 4294967295) ⌝ }
+    ensures { λ r. ⌜ r ≡ hasRoom (entered records children text used) places bytes ⌝ }
+{
+    limits::has_room(records, children, text, used, places, bytes)
+}
 
 // A token event.
 pub fn token(
@@ -30,12 +52,18 @@ pub fn token(
 {
     let hash = fx_hash::token_hash(kind, src);
     let found = search::find_token(records, children, text, used, kind, src, hash);
-    match found {
-        Search::Found(n) => Made::Number(n),
-        Search::Missing => {
-            green_new::token::make_token(records, children, text, used, kind, src, hash)
-        }
+    if let Search::Found(n) = found {
+        return Made::Number(n);
     }
+    if 4294967295 < src.len() {
+        return Made::Refused(Refusal::TooLarge);
+    }
+    if !has_event_room(records, children, text, used, 0, src.len()) {
+        return Made::Refused(Refusal::NoRoom);
+    }
+    let n = used[0];
+    token::push_token(records, children, text, used, kind, src, hash);
+    Made::Number(n)
 }
 
 // A finish-node event over `numbers`, which name what events made.
@@ -47,25 +75,27 @@ pub fn node(
     kind: SyntaxKind,
     numbers: &[u32],
 ) -> Made
-    requires { ⌜ Valid (here records children text used) ⌝ }
-    requires { ⌜ AllEvents (entries (here records children text used)) (now numbers) ⌝ }
+    requires { ⌜ Valid (here records children text used) × AllEvents (entries (here records children text used)) (now numbers) ⌝ }
     ensures { λ r. ⌜ Does (stores records children text used) (λ l es. share l es (nodeEntry true es (kind .0) (now (numbers .entry)))) r ⌝ }
 {
     let hashed = hash::hash_node(records, children, text, used, kind, numbers);
-    if hashed.is_sharable {
-        let found = search::find_node(records, children, text, used, kind, numbers, hashed.hash);
-        if let Search::Found(n) = found {
-            return Made::Number(n);
-        }
+    let found = search::find_node(records, children, text, used, kind, numbers, hashed);
+    if let Search::Found(n) = found {
+        return Made::Number(n);
     }
-    green_new::node::make_node(
-        records,
-        children,
-        text,
-        used,
-        true,
-        kind,
-        numbers,
-        hashed.hash,
-    )
+    let count = numbers.len();
+    if 4096 < count {
+        return Made::Refused(Refusal::TooLarge);
+    }
+    let sums = node::sum_children(records, children, text, used, numbers);
+    if !limits::is_within(sums) {
+        return Made::Refused(Refusal::TooLarge);
+    }
+    if !has_event_room(records, children, text, used, count, 0) {
+        return Made::Refused(Refusal::NoRoom);
+    }
+    let n = used[0];
+    let hash = hashed.hash;
+    node::push_node(records, children, text, used, kind, numbers, sums, hash);
+    Made::Number(n)
 }

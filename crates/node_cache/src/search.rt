@@ -1,4 +1,4 @@
-// The first record that an event made of an element spelled alike.
+// For this crate only: the first record that an event made of an element spelled alike.
 // Equal hashes are not equal elements: they only save a comparison where they differ.
 
 ghost use mathlib.Core.Path.{_≡_};
@@ -6,15 +6,17 @@ ghost use mathlib.Core.Bool.{true};
 ghost use Rattle.definitions.specs.Tree.{token, node, isNode, sameNumbers};
 ghost use Rattle.definitions.specs.Hash.{tokenHash};
 ghost use Rattle.definitions.specs.Entry.{entryAt, treeAt, treesAt};
-ghost use Rattle.definitions.specs.NodeCache.{matches, findFrom};
+ghost use Rattle.definitions.specs.NodeCache.{matches, reuse};
 ghost use Rattle.green.specs.Store.{here, entered, entries};
-ghost use Rattle.green.specs.Valid.{Valid, Known};
-ghost use Rattle.node_cache.specs.Search.{found, NodeSought};
+ghost use Rattle.green.specs.Valid.{AllEvents, Valid, Known};
+ghost use Rattle.node_cache.specs.Search.{found, HashOf, NodeSought};
+use crate::hash::Hashed;
 use green::Counts;
 use green::node;
 use green::record;
 use green::token;
 use utility_types::SyntaxKind;
+use utility_types::number;
 
 pub enum Search {
     Found(usize),
@@ -75,7 +77,7 @@ pub fn find_token(
     hash: u64,
 ) -> Search
     requires { ⌜ Valid (here records children text used) × (hash ≡ tokenHash (kind .0) (now src)) ⌝ }
-    ensures { λ r. ⌜ found r ≡ findFrom (token (kind .0) (now (src .entry))) (entries (entered records children text used)) 0 ⌝ }
+    ensures { λ r. ⌜ found r ≡ reuse (entries (entered records children text used)) (token (kind .0) (now (src .entry))) ⌝ }
 {
     let n = used[0];
     let mut i = 0;
@@ -106,7 +108,7 @@ fn same_children(
     let mut k = 0;
     while k < numbers.len() {
         let child = node::nth_child(records, children, text, used, i, k);
-        if child.number != green_new::node::widen(numbers[k]) {
+        if child.number != number::widen(numbers[k]) {
             return false;
         }
         k += 1;
@@ -142,7 +144,7 @@ fn is_node(
     same_children(records, children, text, used, i, numbers)
 }
 
-// The first such node.
+// The first such node, if the node is shared at all.
 pub fn find_node(
     records: &[u64],
     children: &[u64],
@@ -150,12 +152,16 @@ pub fn find_node(
     used: &Counts,
     kind: SyntaxKind,
     numbers: &[u32],
-    hash: u64,
+    hashed: Hashed,
 ) -> Search
-    requires { ⌜ Valid (here records children text used) ⌝ }
-    requires { ⌜ NodeSought (entries (here records children text used)) (kind .0) (now numbers) hash ⌝ }
-    ensures { λ r. ⌜ found r ≡ findFrom (node (kind .0) (treesAt (entries (entered records children text used)) (now (numbers .entry)))) (entries (entered records children text used)) 0 ⌝ }
+    requires { ⌜ Valid (here records children text used) × AllEvents (entries (here records children text used)) (now numbers) ⌝ }
+    requires { ⌜ HashOf (entries (here records children text used)) (kind .0) (now numbers) hashed ⌝ }
+    ensures { λ r. ⌜ found r ≡ (let es = entries (entered records children text used) in reuse es (node (kind .0) (treesAt es (now (numbers .entry))))) ⌝ }
 {
+    if !hashed.is_sharable {
+        return Search::Missing;
+    }
+    let hash = hashed.hash;
     let n = used[0];
     let mut i = 0;
     while i < n {

@@ -3,7 +3,7 @@
 
 ghost use Prim.Native.Nat.{_≤_};
 ghost use lib.ListN.{length};
-use builder::state::Answer;
+use builder::state::EventAnswer;
 use green::Counts;
 use green::element::Summary;
 use libc::STDOUT_FILENO;
@@ -64,11 +64,11 @@ fn put_counts(line: &mut [u8], n: usize, used: &Counts)
 }
 
 // An accepted event: what it yields, and the counts in use after it.
-pub fn put_event(answer: Answer, used: &Counts) {
+pub fn put_event(answer: EventAnswer, used: &Counts) {
     let mut space = [0u8; 128];
     let line: &mut [u8] = &mut space;
     match answer {
-        Answer::Yielded(number) => {
+        EventAnswer::Yielded(number) => {
             let a = add(line, 0, b"e");
             let b = add_number(line, a, number as u64);
             put_counts(line, b, used);

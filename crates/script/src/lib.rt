@@ -6,7 +6,7 @@ ghost use mathlib.Core.Bool.{true, false};
 ghost use Prim.Native.Nat.{_+_, _*_, _^_, _≤_, _<_, min};
 ghost use lib.ListN.{length};
 use libc::STDERR_FILENO;
-use sheet::format::u32_at;
+use utility_types::number;
 
 pub mod path;
 
@@ -77,13 +77,6 @@ fn no_head() -> Head
     }
 }
 
-// A word as a count.
-fn widen(x: u32) -> usize
-    ensures { λ r. ⌜ r < 2 ^ 32 ⌝ }
-{
-    x as usize
-}
-
 // How many words `n` bytes fill.
 fn words_of(n: usize) -> usize
     ensures { λ r. ⌜ (n ≤ 4 * r) × (4 * r < n + 4) ⌝ }
@@ -106,8 +99,8 @@ pub fn read_head(fd: i32, left: usize) -> Head
     let Got::Whole = got else {
         return no_head();
     };
-    let op = u32_at(&bytes, 0);
-    let m = widen(u32_at(&bytes, 4));
+    let op = number::u32_at(&bytes, 0);
+    let m = number::widen(number::u32_at(&bytes, 4));
     if left < 2 || left - 2 < m {
         complain(b"a call reaches past 1000000 bytes");
         return no_head();
@@ -133,7 +126,7 @@ pub fn read_word(fd: i32) -> Word
     let ok = fill_whole(fd, &mut bytes);
     Word {
         ok,
-        value: widen(u32_at(&bytes, 0)),
+        value: number::widen(number::u32_at(&bytes, 0)),
     }
 }
 
@@ -324,9 +317,9 @@ pub fn read_store(fd: i32) -> Asked {
     Asked {
         ok,
         store: Store {
-            records: widen(u32_at(&bytes, 0)),
-            children: widen(u32_at(&bytes, 4)),
-            text: widen(u32_at(&bytes, 8)),
+            records: number::widen(number::u32_at(&bytes, 0)),
+            children: number::widen(number::u32_at(&bytes, 4)),
+            text: number::widen(number::u32_at(&bytes, 8)),
         },
     }
 }

@@ -4,6 +4,8 @@
 ghost use mathlib.Core.Path.{_≡_};
 ghost use Rattle.utility_types.specs.Numbers.{refusalNumber};
 
+pub mod number;
+
 // A kind, as in rowan: a number of 16 bits, told apart from other numbers by its type.
 pub struct SyntaxKind(pub u16);
 

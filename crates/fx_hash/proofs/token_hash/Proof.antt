@@ -1,10 +1,10 @@
 -- `fx_hash::token_hash` meets its contract. Assumes nothing.
-use mathlib.Core.Path.{ap, _∙_}
 use Prim.Native.Nat.{ℕ, _-_}
+use mathlib.Core.Path.{ap, _∙_}
 use lib.ListN.{length}
 use borrow.Author.Needs.{needs}
 use Rattle.definitions.specs.Hash.{addWord, tokenHash}
-use Rattle.fx_hash.proofs.Words.{Taken, taken-none, taken-more, taken-all}
+use Rattle.definitions.proofs.Hashing.{Taken, taken-none, taken-more, taken-all}
 use Rattle.fx_hash.proofs.token_hash.Statement.{statement}
 use Rattle.fx_hash.proofs.token_hash.Tie as tie
 
@@ -26,6 +26,9 @@ shared-slice-read-wide c = search needs
 wide-requires : tie.Need-wide-requires Inv-loop μ-loop
 wide-requires c κs = search needs
 
+cast-add-word : tie.Need-cast-add-word Inv-loop μ-loop
+cast-add-word c = search needs
+
 add-word-requires : tie.Need-add-word-requires Inv-loop μ-loop
 add-word-requires c κs = search needs
 
@@ -36,7 +39,7 @@ loop-less : tie.Need-loop-less Inv-loop μ-loop
 loop-less c = search needs
 
 loop-again : tie.Need-loop-again Inv-loop μ-loop
-loop-again c = taken-more (c .before .before .before .before .loop .inv) (c .before .before .before .loop-test .taken) (c .add-word .ensures ∙ ap (addWord _) (c .before .wide .ensures))
+loop-again c = taken-more (c .before .before .before .before .loop .inv) (c .before .before .before .loop-test .taken) (c .add-word .ensures ∙ ap (addWord _) (c .before .wide .ensures .0))
 
 add-word-requires-2 : tie.Need-add-word-requires-2 Inv-loop μ-loop
 add-word-requires-2 c κs = search needs
@@ -55,6 +58,7 @@ token-hash-spec =
     loop-holds
     shared-slice-read-wide
     wide-requires
+    cast-add-word
     add-word-requires
     add-i
     loop-less

@@ -1,9 +1,8 @@
 -- `token` meets its contract. Assumes nothing.
-use mathlib.Core.Path.{refl}
-use borrow.Author.Needs.{needs}
-use Rattle.definitions.specs.Hash.{sharable}
 use Rattle.definitions.specs.Entry.{tokenEntry}
-use Rattle.node_cache.proofs.Events.{event-found, event-missing, event-new}
+use Rattle.node_cache.proofs.Events.{event-found}
+use Rattle.node_cache.proofs.TokenEvents.{token-large, token-full, token-ready, token-made}
+use borrow.Author.Needs.{needs}
 use Rattle.node_cache.proofs.token.Statement.{statement}
 use Rattle.node_cache.proofs.token.Tie as tie
 
@@ -16,17 +15,6 @@ find-token-requires c κs = search needs
 enum-known-found : tie.Need-enum-known-found
 enum-known-found c = search needs
 
-enum-told : tie.Need-enum-told
-enum-told c = search needs
-
-make-token-requires : tie.Need-make-token-requires
-unfolding sharable
-make-token-requires c κs = record {
-  valid = c .before .before .before .before .before .before .before .before .before .before .before .before .before .before .pre;
-  fresh = event-missing (c .before .before .before .before .before .before .before .before .before .before .before .before .before .before .pre) (tokenEntry (c .before .before .before .before .before .before .before .before .before .before .before .before .before .before .args .kind .0) (c .before .before .before .before .before .before .before .before .before .before .before .before .before .before .args .src .now)) refl _ (c .before .before .before .before .before .find-token .ensures) (c .before .before .before .enum-told .given .1);
-  hash = c .before .before .before .before .before .before .before .before .before .token-hash .ensures;
-}
-
 same-length : tie.Need-same-length
 same-length c = search needs
 
@@ -34,8 +22,10 @@ same-length-2 : tie.Need-same-length-2
 same-length-2 c = search needs
 
 returns : tie.Need-returns
-unfolding sharable
-returns c = event-found (c .before .before .before .before .before .before .before .before .before .before .before .before .pre) (tokenEntry (c .before .before .before .before .before .before .before .before .before .before .before .before .args .kind .0) (c .before .before .before .before .before .before .before .before .before .before .before .before .args .src .now)) refl _ (c .before .before .before .find-token .ensures) (c .before .found .given .1)
+returns c = event-found (c .before .before .before .before .before .before .before .before .before .before .before .before .pre) (tokenEntry (c .before .before .before .before .before .before .before .before .before .before .before .before .args .kind .0) (c .before .before .before .before .before .before .before .before .before .before .before .before .args .src .now)) _ (c .before .before .before .find-token .ensures) (c .before .found .given .1)
+
+enum-told : tie.Need-enum-told
+enum-told c = search needs
 
 same-length-3 : tie.Need-same-length-3
 same-length-3 c = search needs
@@ -44,10 +34,34 @@ same-length-4 : tie.Need-same-length-4
 same-length-4 c = search needs
 
 returns-2 : tie.Need-returns-2
-unfolding sharable
-returns-2 c =
-    let e = tokenEntry (c .before .before .before .before .before .before .before .before .before .before .before .before .before .before .before .before .before .before .before .args .kind .0) (c .before .before .before .before .before .before .before .before .before .before .before .before .before .before .before .before .before .before .before .args .src .now) in
-    rw (event-new (c .before .before .before .before .before .before .before .before .before .before .before .before .before .before .before .before .before .before .before .pre) e (event-missing (c .before .before .before .before .before .before .before .before .before .before .before .before .before .before .before .before .before .before .before .pre) e refl _ (c .before .before .before .before .before .before .before .before .before .before .find-token .ensures) (c .before .before .before .before .before .before .before .before .enum-told .given .1))) (c .before .before .before .before .make-token .ensures)
+returns-2 c = token-large (c .before .before .before .before .before .before .before .before .before .before .before .before .pre) _ _ _ (c .before .before .before .find-token .ensures) (c .before .enum-told .given .1) (c .if1 .taken)
+
+has-event-room-requires : tie.Need-has-event-room-requires
+has-event-room-requires c κs = search needs
+
+same-length-5 : tie.Need-same-length-5
+same-length-5 c = search needs
+
+same-length-6 : tie.Need-same-length-6
+same-length-6 c = search needs
+
+returns-3 : tie.Need-returns-3
+returns-3 c = token-full (c .before .before .before .before .before .before .before .before .before .before .before .before .before .before .before .before .before .pre) _ _ _ (c .before .before .before .before .before .before .before .before .find-token .ensures) (c .before .before .before .before .before .before .enum-told .given .1) (c .before .before .before .before .before .if1 .left) (c .before .has-event-room .ensures) (c .if2 .taken)
+
+element-copy-out-n : tie.Need-element-copy-out-n
+element-copy-out-n c = search needs
+
+push-token-requires : tie.Need-push-token-requires
+push-token-requires c κs = token-ready (c .before .before .before .before .before .before .before .before .before .before .before .before .before .before .before .before .before .before .before .before .before .pre) _ _ _ (c .before .before .before .before .before .before .before .before .before .before .before .before .find-token .ensures) (c .before .before .before .before .before .before .before .before .before .before .enum-told .given .1) (c .before .before .before .before .before .before .before .before .before .if1 .left) (c .before .before .before .before .before .has-event-room .ensures) (c .before .before .before .before .if2 .left) (c .before .before .before .before .before .before .before .before .before .before .before .before .before .before .before .before .token-hash .ensures)
+
+same-length-7 : tie.Need-same-length-7
+same-length-7 c = search needs
+
+same-length-8 : tie.Need-same-length-8
+same-length-8 c = search needs
+
+returns-4 : tie.Need-returns-4
+returns-4 c = token-made (c .before .before .before .before .before .before .before .before .before .before .before .before .before .before .before .before .before .before .before .before .before .before .before .before .before .before .pre) _ _ _ (c .before .before .before .before .before .before .before .before .before .before .before .before .before .before .before .before .before .find-token .ensures) (c .before .before .before .before .before .before .before .before .before .before .before .before .before .before .before .enum-told .given .1) (c .before .before .before .before .before .before .before .before .before .before .before .before .before .before .if1 .left) (c .before .before .before .before .before .before .before .before .before .before .has-event-room .ensures) (c .before .before .before .before .before .before .before .before .before .if2 .left) (c .before .before .before .before .push-token .ensures)
 
 pub token-spec : {M : Type 1} → statement M
 token-spec =
@@ -56,11 +70,19 @@ token-spec =
     token-hash-requires
     find-token-requires
     enum-known-found
-    enum-told
-    make-token-requires
     same-length
     same-length-2
     returns
+    enum-told
     same-length-3
     same-length-4
-    returns-2)
+    returns-2
+    has-event-room-requires
+    same-length-5
+    same-length-6
+    returns-3
+    element-copy-out-n
+    push-token-requires
+    same-length-7
+    same-length-8
+    returns-4)

@@ -4,11 +4,12 @@ use native.Mathlib.Omega.{arith}
 use mathlib.Core.Path.{refl, sym, _∙_}
 use mathlib.Core.Logic.{⊎-elim}
 use borrow.Author.Needs.{needs}
+use Rattle.definitions.proofs.Sheets.{well-formed}
 use Rattle.definitions.specs.Sheet.{eventCount}
 use Rattle.green.specs.Store.{store}
 use Rattle.builder.specs.Places.{places}
 use Rattle.sheet_run.proofs.Stepping.{wrote-number, wrote-none, number-small, left-part}
-use Rattle.sheet_run.proofs.Going.{Going, sized, going-start, going-ahead, going-on, going-refused, going-over}
+use Rattle.sheet_run.proofs.Going.{Going, going-start, going-ahead, going-on, going-refused, going-over}
 use Rattle.sheet_run.proofs.Starting.{nothing-run, new-builder, new-standing}
 use Rattle.sheet_run.proofs.run_in.Statement.{statement}
 use Rattle.sheet_run.proofs.run_in.Tie as tie
@@ -24,26 +25,26 @@ returns : tie.Need-returns Inv-loop μ-loop
 returns c = nothing-run (c .before .before .before .before .before .before .before .before .before .before .before .args .sheet .now) (c .before .before .before .before .before .before .before .before .before .before .before .args .source .now) (c .before .before .before .before .before .before .before .before .before .before .before .pre .0) (sym (c .before .is-malformed .ensures) ∙ c .if1 .taken) _ refl (c .before .before .before .before .before .before .before .before .before .before .before .pre .1)
 
 u32-at-requires : tie.Need-u32-at-requires Inv-loop μ-loop
-u32-at-requires c κs = omega (arith, sized (c .before .before .before .before .before .before .before .before .before .before .before .before .before .before .before .args .sheet .now) (c .before .before .before .before .before .before .before .before .before .before .before .before .before .before .before .args .source .now) (sym (c .before .before .before .before .before .is-malformed .ensures) ∙ c .before .before .before .before .if1 .left))
+u32-at-requires c κs = omega (arith, well-formed (c .before .before .before .before .before .before .before .before .before .before .before .before .before .before .before .args .sheet .now) (c .before .before .before .before .before .before .before .before .before .before .before .before .before .before .before .args .source .now) (sym (c .before .before .before .before .before .is-malformed .ensures) ∙ c .before .before .before .before .if1 .left))
 
 loop-holds : tie.Need-loop-holds Inv-loop μ-loop
 unfolding eventCount
 loop-holds c = going-start _ (new-standing (c .before .before .before .before .before .before .before .before .before .before .before .before .before .before .before .before .pre .0) (c .before .before .before .before .before .before .before .before .before .before .before .before .before .before .before .before .pre .1) _ (c .before .before .before .clear .ensures)) (sym (c .before .before .before .before .before .before .is-malformed .ensures) ∙ c .before .before .before .before .before .if1 .left) (new-builder (c .before .before .before .before .before .before .before .before .before .before .before .before .before .before .before .before .pre .0) (c .before .before .before .before .before .before .before .before .before .before .before .before .before .before .before .before .pre .1) _ (c .before .before .before .clear .ensures)) _ (c .u32-at .ensures)
 
 step-requires : tie.Need-step-requires Inv-loop μ-loop
-step-requires c κs = (c .before .before .before .before .before .before .before .before .before .loop .inv .standing, going-ahead (c .before .before .before .before .before .before .before .before .before .loop .inv) (c .before .before .before .before .before .before .before .before .loop-test .taken))
+step-requires c κs = (c .before .before .before .before .before .before .before .before .before .loop .inv .builder-valid, going-ahead (c .before .before .before .before .before .before .before .before .before .loop .inv) (c .before .before .before .before .before .before .before .before .loop-test .taken))
 
 same-length-4 : tie.Need-same-length-4 Inv-loop μ-loop
-same-length-4 c = c .before .before .before .before .before .before .before .before .before .before .before .before .before .before .before .before .before .step .ensures .stepped .standing .parents-length ∙ sym (c .before .before .before .before .before .before .before .before .before .before .before .before .before .before .before .before .before .before .before .before .before .before .before .before .before .before .before .before .before .before .before .before .before .before .before .before .before .before .before .before .before .before .before .before .pre .1 .parents)
+same-length-4 c = c .before .before .before .before .before .before .before .before .before .before .before .before .before .before .before .before .before .step .ensures .stepped .builder-valid .parents-length ∙ sym (c .before .before .before .before .before .before .before .before .before .before .before .before .before .before .before .before .before .before .before .before .before .before .before .before .before .before .before .before .before .before .before .before .before .before .before .before .before .before .before .before .before .before .before .before .pre .1 .parents)
 
 same-length-5 : tie.Need-same-length-5 Inv-loop μ-loop
-same-length-5 c = c .before .before .before .before .before .before .before .before .before .before .before .before .before .before .before .before .before .step .ensures .stepped .standing .waiting-length ∙ sym (c .before .before .before .before .before .before .before .before .before .before .before .before .before .before .before .before .before .before .before .before .before .before .before .before .before .before .before .before .before .before .before .before .before .before .before .before .before .before .before .before .before .before .before .before .pre .1 .waiting)
+same-length-5 c = c .before .before .before .before .before .before .before .before .before .before .before .before .before .before .before .before .before .step .ensures .stepped .builder-valid .waiting-length ∙ sym (c .before .before .before .before .before .before .before .before .before .before .before .before .before .before .before .before .before .before .before .before .before .before .before .before .before .before .before .before .before .before .before .before .before .before .before .before .before .before .before .before .before .before .before .before .pre .1 .waiting)
 
 same-length-6 : tie.Need-same-length-6 Inv-loop μ-loop
-same-length-6 c = c .before .before .before .before .before .before .before .before .before .before .before .before .before .before .before .before .before .step .ensures .stepped .standing .registers-length ∙ sym (c .before .before .before .before .before .before .before .before .before .before .before .before .before .before .before .before .before .before .before .before .before .before .before .before .before .before .before .before .before .before .before .before .before .before .before .before .before .before .before .before .before .before .before .before .pre .1 .registers)
+same-length-6 c = c .before .before .before .before .before .before .before .before .before .before .before .before .before .before .before .before .before .step .ensures .stepped .builder-valid .registers-length ∙ sym (c .before .before .before .before .before .before .before .before .before .before .before .before .before .before .before .before .before .before .before .before .before .before .before .before .before .before .before .before .before .before .before .before .before .before .before .before .before .before .before .before .before .before .before .before .pre .1 .registers)
 
 same-length-7 : tie.Need-same-length-7 Inv-loop μ-loop
-same-length-7 c = c .before .before .before .before .before .before .before .before .before .before .before .before .before .before .before .before .before .step .ensures .stepped .standing .counts-length ∙ sym (c .before .before .before .before .before .before .before .before .before .before .before .before .before .before .before .before .before .before .before .before .before .before .before .before .before .before .before .before .before .before .before .before .before .before .before .before .before .before .before .before .before .before .before .before .pre .1 .counts)
+same-length-7 c = c .before .before .before .before .before .before .before .before .before .before .before .before .before .before .before .before .before .step .ensures .stepped .builder-valid .counts-length ∙ sym (c .before .before .before .before .before .before .before .before .before .before .before .before .before .before .before .before .before .before .before .before .before .before .before .before .before .before .before .before .before .before .before .before .before .before .before .before .before .before .before .before .before .before .before .before .pre .1 .counts)
 
 returns-2 : tie.Need-returns-2 Inv-loop μ-loop
 returns-2 c = going-refused (c .before .before .before .before .before .before .before .before .before .before .before .before .before .before .before .before .before .before .before .before .before .before .before .before .before .before .before .loop .inv) (c .before .before .before .before .before .before .before .before .before .before .before .before .before .before .before .before .before .before .before .before .before .before .before .before .before .before .loop-test .taken) (c .before .before .before .before .before .before .before .before .before .before .before .before .before .before .before .before .before .step .ensures) (c .before .answer .given .1) refl
@@ -55,16 +56,16 @@ loop-again : tie.Need-loop-again Inv-loop μ-loop
 loop-again c = going-on (c .before .before .before .before .before .before .before .before .before .before .before .before .before .before .before .before .before .before .before .before .before .before .before .before .before .before .loop .inv) (c .before .before .before .before .before .before .before .before .before .before .before .before .before .before .before .before .before .before .before .before .before .before .before .before .before .loop-test .taken) (c .before .before .before .before .before .before .before .before .before .before .before .before .before .before .before .before .step .ensures) (⊎-elim (λ w. wrote-number (c .before .before .before .before .before .before .before .before .before .before .before .before .before .before .before .before .step .ensures) _ (w .1 .given .1) (w .3)) (λ w. wrote-none (c .before .before .before .before .before .before .before .before .before .before .before .before .before .before .before .before .step .ensures) _ (w .1 .given .1) (w .2)) (c .before .match .came)) (c .before .before .before .before .before .before .before .before .before .before .before .before .before .before .before .records .given) (c .before .before .before .before .before .before .before .before .before .before .before .before .before .children .given) (c .before .before .before .before .before .before .before .before .before .before .before .text .given)
 
 same-length-11 : tie.Need-same-length-11 Inv-loop μ-loop
-same-length-11 c = c .before .before .before .before .before .before .before .before .before .before .before .loop .inv .standing .parents-length ∙ sym (c .before .before .before .before .before .before .before .before .before .before .before .before .before .before .before .before .before .before .before .before .before .before .before .before .before .before .before .before .pre .1 .parents)
+same-length-11 c = c .before .before .before .before .before .before .before .before .before .before .before .loop .inv .builder-valid .parents-length ∙ sym (c .before .before .before .before .before .before .before .before .before .before .before .before .before .before .before .before .before .before .before .before .before .before .before .before .before .before .before .before .pre .1 .parents)
 
 same-length-12 : tie.Need-same-length-12 Inv-loop μ-loop
-same-length-12 c = c .before .before .before .before .before .before .before .before .before .before .before .loop .inv .standing .waiting-length ∙ sym (c .before .before .before .before .before .before .before .before .before .before .before .before .before .before .before .before .before .before .before .before .before .before .before .before .before .before .before .before .pre .1 .waiting)
+same-length-12 c = c .before .before .before .before .before .before .before .before .before .before .before .loop .inv .builder-valid .waiting-length ∙ sym (c .before .before .before .before .before .before .before .before .before .before .before .before .before .before .before .before .before .before .before .before .before .before .before .before .before .before .before .before .pre .1 .waiting)
 
 same-length-13 : tie.Need-same-length-13 Inv-loop μ-loop
-same-length-13 c = c .before .before .before .before .before .before .before .before .before .before .before .loop .inv .standing .registers-length ∙ sym (c .before .before .before .before .before .before .before .before .before .before .before .before .before .before .before .before .before .before .before .before .before .before .before .before .before .before .before .before .pre .1 .registers)
+same-length-13 c = c .before .before .before .before .before .before .before .before .before .before .before .loop .inv .builder-valid .registers-length ∙ sym (c .before .before .before .before .before .before .before .before .before .before .before .before .before .before .before .before .before .before .before .before .before .before .before .before .before .before .before .before .pre .1 .registers)
 
 same-length-14 : tie.Need-same-length-14 Inv-loop μ-loop
-same-length-14 c = c .before .before .before .before .before .before .before .before .before .before .before .loop .inv .standing .counts-length ∙ sym (c .before .before .before .before .before .before .before .before .before .before .before .before .before .before .before .before .before .before .before .before .before .before .before .before .before .before .before .before .pre .1 .counts)
+same-length-14 c = c .before .before .before .before .before .before .before .before .before .before .before .loop .inv .builder-valid .counts-length ∙ sym (c .before .before .before .before .before .before .before .before .before .before .before .before .before .before .before .before .before .before .before .before .before .before .before .before .before .before .before .before .pre .1 .counts)
 
 returns-3 : tie.Need-returns-3 Inv-loop μ-loop
 returns-3 c = going-over (c .before .before .before .before .before .before .before .before .before .before .before .loop .inv) (c .before .before .before .before .before .before .before .before .before .before .loop-test .left) (rw (left-part (c .before .before .before .before .before .before .before .before .before .before .before .before .before .before .before .before .before .before .before .before .before .before .before .before .before .before .before .before .args .source .now) (c .before .before .before .before .before .before .before .before .before .before .before .loop .at)) at (c .end-run .ensures))

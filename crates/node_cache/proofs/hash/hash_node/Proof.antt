@@ -1,22 +1,23 @@
 -- `hash_node` meets its contract: the hashes that are copied, with those of the children that are left, are all. Assumes nothing.
-use Prim.Native.Nat.{_-_}
-use mathlib.Core.Path.{refl}
-use native.Mathlib.Omega.{arith}
-use lib.ListN.{length}
 use borrow.Author.Needs.{needs}
+use Prim.Native.Nat.{_-_}
+use native.Mathlib.Omega.{arith}
+use mathlib.Core.Path.{refl}
+use lib.ListN.{length}
+use Rattle.definitions.proofs.Hashing.{many-unshared, HashesCopied, copied-none, copied-more, copied-room, hashed}
 use Rattle.green.specs.Store.{store, entries}
-use Rattle.node_cache.proofs.Hashing.{many, Copied, copied-none, copied-more, copied-room, hashed, child-known}
+use Rattle.green.proofs.Answering.{child-known}
 use Rattle.node_cache.proofs.hash.hash_node.Statement.{statement}
 use Rattle.node_cache.proofs.hash.hash_node.Tie as tie
 
 abbrev Inv-loop : tie.InvT-loop
-Inv-loop records children text used kind numbers n hashes₀ i₀ hashes i = Copied (entries (store records children text used)) numbers hashes i
+Inv-loop records children text used kind numbers n hashes₀ i₀ hashes i = HashesCopied (entries (store records children text used)) numbers hashes i
 
 abbrev μ-loop : tie.MeasureT-loop
 μ-loop records children text used kind numbers n hashes₀ i₀ hashes i = length numbers - i
 
 returns : tie.Need-returns Inv-loop μ-loop
-returns c = many _ _ _ (c .if1 .taken)
+returns c = let z = many-unshared _ _ _ (c .if1 .taken) in record { sharable = z .0; hash = z .1 }
 
 loop-holds : tie.Need-loop-holds Inv-loop μ-loop
 loop-holds c = copied-none refl
@@ -31,7 +32,7 @@ widen-requires : tie.Need-widen-requires Inv-loop μ-loop
 widen-requires c κs = search needs
 
 hash-of-requires : tie.Need-hash-of-requires Inv-loop μ-loop
-hash-of-requires c κs = child-known _ (c .before .before .before .before .before .before .before .before .before .pre .0) (c .before .before .before .before .before .before .before .before .before .pre .1) (c .before .before .loop-test .taken) (c .widen .ensures)
+hash-of-requires c κs = child-known _ (c .before .before .before .before .before .before .before .before .before .pre .0) (c .before .before .before .before .before .before .before .before .before .pre .1) (c .before .before .loop-test .taken) (c .widen .ensures .0)
 
 mul-hashes : tie.Need-mul-hashes Inv-loop μ-loop
 mul-hashes c = omega arith
@@ -46,28 +47,19 @@ loop-less : tie.Need-loop-less Inv-loop μ-loop
 loop-less c = omega arith
 
 loop-again : tie.Need-loop-again Inv-loop μ-loop
-loop-again c = copied-more (c .before .before .before .before .loop .inv) (c .before .before .before .before .before .if1 .left) (c .before .before .before .loop-test .taken) (c .before .widen .ensures) (c .hash-of .ensures)
+loop-again c = copied-more (c .before .before .before .before .loop .inv) (c .before .before .before .before .before .if1 .left) (c .before .before .before .loop-test .taken) (c .before .widen .ensures .0) (c .hash-of .ensures)
 
 array-share-prefix-hashes : tie.Need-array-share-prefix-hashes Inv-loop μ-loop
-array-share-prefix-hashes c = omega (arith, c .before .before .if1 .left, c .before .loop .inv .room)
-
-slice-aggregate-is-sharable : tie.Need-slice-aggregate-is-sharable Inv-loop μ-loop
-slice-aggregate-is-sharable c = copied-room (c .before .before .loop .inv) (c .before .before .before .if1 .left)
-
-is-sharable-requires : tie.Need-is-sharable-requires Inv-loop μ-loop
-is-sharable-requires c κs = search needs
-
-array-share-prefix-hashes-2 : tie.Need-array-share-prefix-hashes-2 Inv-loop μ-loop
-array-share-prefix-hashes-2 c = omega (arith, c .before .before .before .before .if1 .left, c .before .before .before .loop .inv .room)
+array-share-prefix-hashes c = omega (arith, (c .before .before .if1 .left), (c .before .loop .inv .room))
 
 slice-aggregate-node-hash : tie.Need-slice-aggregate-node-hash Inv-loop μ-loop
-slice-aggregate-node-hash c = copied-room (c .before .before .before .before .loop .inv) (c .before .before .before .before .before .if1 .left)
+slice-aggregate-node-hash c = copied-room (c .before .before .loop .inv) (c .before .before .before .if1 .left)
 
 node-hash-requires : tie.Need-node-hash-requires Inv-loop μ-loop
-node-hash-requires c κs = search needs
+node-hash-requires c κs = omega (arith, copied-room (c .before .before .loop .inv) (c .before .before .before .if1 .left), (c .before .before .before .if1 .left))
 
 returns-2 : tie.Need-returns-2 Inv-loop μ-loop
-returns-2 c = hashed (c .before .before .before .before .before .loop .inv) (c .before .before .before .before .loop-test .left) _ (c .before .before .is-sharable .ensures) (c .node-hash .ensures)
+returns-2 c = let z = hashed (c .before .before .before .loop .inv) (c .before .before .loop-test .left) _ (c .node-hash .ensures .0) (c .node-hash .ensures .1) in record { sharable = z .0; hash = z .1 }
 
 pub hash-node-spec : {M : Type 1} → statement M
 hash-node-spec =
@@ -87,9 +79,6 @@ hash-node-spec =
     loop-less
     loop-again
     array-share-prefix-hashes
-    slice-aggregate-is-sharable
-    is-sharable-requires
-    array-share-prefix-hashes-2
     slice-aggregate-node-hash
     node-hash-requires
     returns-2)

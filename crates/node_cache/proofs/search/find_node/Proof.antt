@@ -1,20 +1,25 @@
 -- `find_node` meets its contract. Assumes nothing.
-use Prim.Native.Nat.{_-_}
-use native.Mathlib.Omega.{arith}
 use borrow.Author.Needs.{needs}
+use native.Mathlib.Omega.{arith}
+use mathlib.Core.Path.{_∙_}
+use Prim.Native.Nat.{_-_}
 use Rattle.definitions.specs.Tree.{node}
 use Rattle.definitions.specs.Entry.{treesAt}
+use Rattle.definitions.proofs.Sharing.{Sought, sought-start, sought-hit, sought-next, sought-end}
 use Rattle.green.specs.Store.{store, entries}
-use Rattle.green.proofs.Known.{known, number-bound}
-use Rattle.node_cache.proofs.Finding.{Sought, sought-start, sought-hit, sought-next, sought-end}
+use Rattle.green.proofs.Known.{known, number-bound, count-records}
+use Rattle.node_cache.proofs.NodeEvents.{unshared, node-sought, node-reused}
 use Rattle.node_cache.proofs.search.find_node.Statement.{statement}
 use Rattle.node_cache.proofs.search.find_node.Tie as tie
 
 abbrev Inv-loop : tie.InvT-loop
-Inv-loop records children text used kind numbers hash n i₀ i = Sought (node (kind .0) (treesAt (entries (store records children text used)) numbers)) (store records children text used) i
+Inv-loop records children text used kind numbers hash n i₀ i = Sought (node (kind .0) (treesAt (entries (store records children text used)) numbers)) (entries (store records children text used)) i
 
 abbrev μ-loop : tie.MeasureT-loop
 μ-loop records children text used kind numbers hash n i₀ i = n - i
+
+returns : tie.Need-returns Inv-loop μ-loop
+returns c = unshared (c .before .before .before .before .before .before .pre .1) (c .if1 .taken)
 
 element-copy-out-n : tie.Need-element-copy-out-n Inv-loop μ-loop
 element-copy-out-n c = search needs
@@ -23,22 +28,22 @@ loop-holds : tie.Need-loop-holds Inv-loop μ-loop
 loop-holds c = sought-start
 
 is-node-requires : tie.Need-is-node-requires Inv-loop μ-loop
-is-node-requires c κs = (known _ (c .before .before .before .before .before .before .before .pre .0) _ (c .loop-test .taken), c .before .before .before .before .before .before .before .pre .1)
+is-node-requires c κs = (known _ (c .before .before .before .before .before .before .before .before .before .pre .0 .0) _ (c .loop-test .taken), node-sought (c .before .before .before .before .before .before .before .before .before .pre .1) (c .before .before .before .if1 .left) (c .before .before .before .before .before .before .before .before .before .pre .0 .1))
 
-returns : tie.Need-returns Inv-loop μ-loop
-returns c = sought-hit (c .before .before .before .before .before .before .before .before .before .pre .0) (c .before .before .before .loop .inv) (c .before .before .loop-test .taken) _ (c .before .is-node .ensures) (c .if1 .taken)
+returns-2 : tie.Need-returns-2 Inv-loop μ-loop
+returns-2 c = sought-hit (c .before .before .before .loop .inv) (known _ (c .before .before .before .before .before .before .before .before .before .before .before .pre .0 .0) _ (c .before .before .loop-test .taken) .within) _ (c .before .is-node .ensures) (c .if2 .taken) ∙ node-reused (c .before .before .before .before .before .before .before .before .before .before .before .pre .1) (c .before .before .before .before .before .if1 .left)
 
 add-i : tie.Need-add-i Inv-loop μ-loop
-add-i c = omega (arith, number-bound _ _ (known _ (c .before .before .before .before .before .before .before .before .before .pre .0) _ (c .before .before .loop-test .taken)))
+add-i c = omega (arith, number-bound _ _ (known _ (c .before .before .before .before .before .before .before .before .before .before .before .pre .0 .0) _ (c .before .before .loop-test .taken)))
 
 loop-less : tie.Need-loop-less Inv-loop μ-loop
 loop-less c = search needs
 
 loop-again : tie.Need-loop-again Inv-loop μ-loop
-loop-again c = sought-next (c .before .before .before .before .before .before .before .before .before .pre .0) (c .before .before .before .loop .inv) (c .before .before .loop-test .taken) _ (c .before .is-node .ensures) (c .if1 .left)
+loop-again c = sought-next (c .before .before .before .loop .inv) (known _ (c .before .before .before .before .before .before .before .before .before .before .before .pre .0 .0) _ (c .before .before .loop-test .taken) .within) _ (c .before .is-node .ensures) (c .if2 .left)
 
-returns-2 : tie.Need-returns-2 Inv-loop μ-loop
-returns-2 c = sought-end (c .before .before .before .before .before .before .before .pre .0) (c .before .loop .inv) (c .loop-test .left)
+returns-3 : tie.Need-returns-3 Inv-loop μ-loop
+returns-3 c = sought-end (c .before .loop .inv) (omega (arith, count-records _ (c .before .before .before .before .before .before .before .before .before .pre .0 .0), (c .loop-test .left))) ∙ node-reused (c .before .before .before .before .before .before .before .before .before .pre .1) (c .before .before .before .if1 .left)
 
 pub find-node-spec : {M : Type 1} → statement M
 find-node-spec =
@@ -46,11 +51,12 @@ find-node-spec =
     (tie.spec
     Inv-loop
     μ-loop
+    returns
     element-copy-out-n
     loop-holds
     is-node-requires
-    returns
+    returns-2
     add-i
     loop-less
     loop-again
-    returns-2)
+    returns-3)

@@ -3,7 +3,7 @@ use Prim.Native.Nat.{_-_}
 use native.Mathlib.Omega.{arith}
 use lib.ListN.{length}
 use borrow.Author.Needs.{needs}
-use Rattle.node_cache.proofs.Comparing.{unequal-lengths, Compared, compared-start, compared-differ, compared-next, compared-end}
+use Rattle.definitions.proofs.Comparing.{unequal-lengths, Compared, compared-start, compared-differ, compared-next, compared-end}
 use Rattle.node_cache.proofs.search.same_bytes.Statement.{statement}
 use Rattle.node_cache.proofs.search.same_bytes.Tie as tie
 

@@ -1,12 +1,12 @@
 -- `same_children` meets its contract. Assumes nothing.
 use Prim.Native.Nat.{_-_}
-use mathlib.Core.Path.{ap}
 use native.Mathlib.Omega.{arith}
+use mathlib.Core.Path.{ap}
 use lib.ListN.{length}
 use borrow.Author.Needs.{needs}
 use Rattle.definitions.specs.Entry.{entryAt}
+use Rattle.definitions.proofs.Comparing.{Compared, compared-end}
 use Rattle.green.specs.Store.{store, entries}
-use Rattle.node_cache.proofs.Comparing.{Compared, compared-end}
 use Rattle.node_cache.proofs.SameNode.{other-count, same-count, child-differs, child-same}
 use Rattle.node_cache.proofs.search.same_children.Statement.{statement}
 use Rattle.node_cache.proofs.search.same_children.Tie as tie
@@ -39,7 +39,7 @@ widen-requires : tie.Need-widen-requires Inv-loop μ-loop
 widen-requires c κs = search needs
 
 returns-2 : tie.Need-returns-2 Inv-loop μ-loop
-returns-2 c = child-differs (c .before .before .before .before .before .before .loop .inv) (c .before .before .before .before .before .loop-test .taken) (ap (λ x. x .number) (c .before .before .before .before .nth-child .ensures .0)) (c .before .before .widen .ensures) (c .if2 .taken)
+returns-2 c = child-differs (c .before .before .before .before .before .before .loop .inv) (c .before .before .before .before .before .loop-test .taken) (ap (λ x. x .number) (c .before .before .before .before .nth-child .ensures .0)) (c .before .before .widen .ensures .0) (c .if2 .taken)
 
 add-k : tie.Need-add-k Inv-loop μ-loop
 add-k c = omega arith
@@ -48,7 +48,7 @@ loop-less : tie.Need-loop-less Inv-loop μ-loop
 loop-less c = omega arith
 
 loop-again : tie.Need-loop-again Inv-loop μ-loop
-loop-again c = child-same (c .before .before .before .before .before .before .loop .inv) (c .before .before .before .before .before .loop-test .taken) (ap (λ x. x .number) (c .before .before .before .before .nth-child .ensures .0)) (c .before .before .widen .ensures) (c .if2 .left)
+loop-again c = child-same (c .before .before .before .before .before .before .loop .inv) (c .before .before .before .before .before .loop-test .taken) (ap (λ x. x .number) (c .before .before .before .before .nth-child .ensures .0)) (c .before .before .widen .ensures .0) (c .if2 .left)
 
 returns-3 : tie.Need-returns-3 Inv-loop μ-loop
 returns-3 c = compared-end (c .before .loop .inv) (c .loop-test .left)
