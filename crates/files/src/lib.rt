@@ -1,7 +1,19 @@
-// Files by name, read into lent buffers. One that cannot be opened or read is named on standard error.
+// What the programs read and write: files by name, here, and standard output, in `out`. What cannot be opened, read or
+// written is named on standard error.
 
 ghost use Prim.Native.Nat.{_≤_};
 ghost use lib.ListN.{length};
+use libc::STDERR_FILENO;
+
+pub mod out;
+
+// A line on standard error: what it is about, a colon, and what is wrong.
+pub fn tell(about: &[u8], what: &[u8]) {
+    io::write_all(STDERR_FILENO, about);
+    io::write_all(STDERR_FILENO, b": ");
+    io::write_all(STDERR_FILENO, what);
+    io::write_all(STDERR_FILENO, b"\n");
+}
 
 pub struct Read {
     pub ok: bool,

@@ -5,70 +5,98 @@ ghost use mathlib.Core.Bool.{true, false};
 ghost use Prim.Native.Nat.{_<_};
 ghost use Rattle.green.specs.Store.{here};
 ghost use Rattle.green.specs.Valid.{Valid};
+use files::out;
 use green::Counts;
 use replies::elements;
 use replies::record;
-use replies::show;
-use script::Store;
+use script::call;
+use script::call::Call;
+use script::store;
+use script::store::Store;
+use script::words;
+use std::num::wrapping_add_usize;
 
 // A call that only reads the store. Whether the script goes on, here and below.
 fn read(
-    fd: i32,
+    call: Call,
+    out: &mut [u8],
+    end: &mut usize,
     records: &[u64],
     children: &[u64],
     text: &[u8],
     used: &Counts,
     slots: &mut [usize; 64],
     paths: &mut [u32; 512],
-    op: u32,
-    m: usize,
 ) -> bool
     requires { ⌜ Valid (here records children text used) ⌝ }
 {
+    let op = call.op;
     match op {
-        20..=38 => query_replies::answer(fd, records, children, text, used, op, m),
-        40..=42 => walk_replies::answer(fd, records, children, text, used, slots, paths, op, m),
-        50..=58 => text_replies::answer(fd, records, children, text, used, slots, paths, op, m),
-        60 | 61 => elements::answer(fd, records, children, text, used, op, m),
-        64 => record::answer(fd, records, children, text, used, m),
-        _ => not_offered(fd, m),
+        20..=38 => query_replies::answer(call, out, end, records, children, text, used),
+        40..=42 => walk_replies::answer(
+            call,
+            out,
+            end,
+            records,
+            children,
+            text,
+            used,
+            slots,
+            paths,
+        ),
+        50..=58 => text_replies::answer(
+            call,
+            out,
+            end,
+            records,
+            children,
+            text,
+            used,
+            slots,
+            paths,
+        ),
+        60 | 61 => elements::answer(call, out, end, records, children, text, used),
+        64 => record::answer(call, out, end, records, children, text, used),
+        _ => not_offered(call, out, end),
     }
 }
 
-// Reads the `m` words of call `op`, and prints the reply.
 fn answer(
-    fd: i32,
+    call: Call,
+    out: &mut [u8],
+    end: &mut usize,
     records: &mut [u64],
     children: &mut [u64],
     text: &mut [u8],
     used: &mut Counts,
     slots: &mut [usize; 64],
     paths: &mut [u32; 512],
-    op: u32,
-    m: usize,
 ) -> bool
     requires { ⌜ Valid (here records children text used) ⌝ }
     ensures { λ _. ⌜ Valid (here (records .exit) (children .exit) (text .exit) (used .exit)) ⌝ }
 {
+    let op = call.op;
     match op {
-        2 | 3 => run_replies::answer(fd, records, children, text, used, op, m),
-        10..=14 => edit_replies::answer(fd, records, children, text, used, op, m),
-        _ => read(fd, records, children, text, used, slots, paths, op, m),
+        2 | 3 => run_replies::answer(call, out, end, records, children, text, used),
+        10..=14 => edit_replies::answer(call, out, end, records, children, text, used),
+        _ => read(call, out, end, records, children, text, used, slots, paths),
     }
 }
 
-fn not_offered(fd: i32, m: usize) -> bool {
-    if !script::pass_over(fd, m) {
+fn not_offered(call: Call, out: &mut [u8], end: &mut usize) -> bool {
+    if !words::pass_over(call, call.m) {
         return false;
     }
-    show::put(b"-\n");
+    out::put(out, end, b"-\n");
     true
 }
 
-// Why a store's calls are over: the script asks for another store, or nothing more can be read of it.
+// Why a store's calls are over: the script asks for another store, or nothing more can be read of it. The next call's
+// ordinal, and how many words of the longest script are left.
 pub struct After {
     pub more: bool,
     pub store: Store,
+    pub ordinal: usize,
     pub left: usize,
 }
 
@@ -77,37 +105,43 @@ fn over() -> After
 {
     After {
         more: false,
-        store: script::first_store(),
+        store: store::first_store(),
+        ordinal: 0,
         left: 0,
     }
 }
 
 // Call 1: the store that comes next.
-fn next_store(fd: i32, m: usize, left: usize) -> After
+fn next_store(call: Call, out: &mut [u8], end: &mut usize, left: usize) -> After
     ensures { λ r. ⌜ (r .more ≡ true → r .left ≡ left) ⌝ }
 {
-    if !script::has_words(m, 3) {
+    if !words::has_words(call, call.m, 3) {
         return over();
     }
-    let asked = script::read_store(fd);
+    let asked = store::read_store(call);
     if !asked.ok {
         return over();
     }
-    show::put(b"ok\n");
+    out::put(out, end, b"ok\n");
     let store = asked.store;
     After {
         more: true,
         store,
+        ordinal: wrapping_add_usize(call.ordinal, 1),
         left,
     }
 }
 
-// The calls up to the next store, from an empty one with empty slots. `words` of the longest script are left.
+// The calls up to the next store, from an empty one with empty slots, from the call of that ordinal on. `words` of the
+// longest script are left.
 fn answer_all(
     fd: i32,
+    out: &mut [u8],
+    end: &mut usize,
     records: &mut [u64],
     children: &mut [u64],
     text: &mut [u8],
+    first: usize,
     words: usize,
 ) -> After
     ensures { λ r. ⌜ (r .more ≡ true → r .left < words) ⌝ }
@@ -115,26 +149,29 @@ fn answer_all(
     let mut used = [0usize; 8];
     let mut slots = [0usize; 64];
     let mut paths = [0u32; 512];
+    let mut ordinal = first;
     let mut left = words;
     loop {
-        let head = script::read_head(fd, left);
+        let head = call::read_head(fd, ordinal, left);
         if !head.more {
             return over();
         }
         left = head.left;
-        if head.op == 1 {
-            return next_store(fd, head.m, left);
+        ordinal = wrapping_add_usize(ordinal, 1);
+        let call = head.call;
+        if call.op == 1 {
+            return next_store(call, out, end, left);
         }
         if !answer(
-            fd,
+            call,
+            out,
+            end,
             records,
             children,
             text,
             &mut used,
             &mut slots,
             &mut paths,
-            head.op,
-            head.m,
         ) {
             return over();
         }
@@ -144,22 +181,28 @@ fn answer_all(
 // The same in as many of the places as the script asks for and there are.
 pub fn on_store(
     fd: i32,
+    out: &mut [u8],
+    end: &mut usize,
     records: &mut [u64],
     children: &mut [u64],
     text: &mut [u8],
     asked: Store,
+    first: usize,
     words: usize,
 ) -> After
     ensures { λ r. ⌜ (r .more ≡ true → r .left < words) ⌝ }
 {
-    let r = script::least(asked.records, records.len() / 8);
-    let c = script::least(asked.children, children.len());
-    let t = script::least(asked.text, text.len());
+    let r = words::least(asked.records, records.len() / 8);
+    let c = words::least(asked.children, children.len());
+    let t = words::least(asked.text, text.len());
     answer_all(
         fd,
+        out,
+        end,
         &mut records[..8 * r],
         &mut children[..c],
         &mut text[..t],
+        first,
         words,
     )
 }

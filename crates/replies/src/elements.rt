@@ -6,36 +6,38 @@ use crate::show;
 use green::Counts;
 use green::element;
 use green::element::Summarized;
+use script::call::Call;
+use script::words;
 
 // The call's only word is a number. Whether the script goes on.
 pub fn answer(
-    fd: i32,
+    call: Call,
+    out: &mut [u8],
+    end: &mut usize,
     records: &[u64],
     children: &[u64],
     text: &[u8],
     used: &Counts,
-    op: u32,
-    m: usize,
 ) -> bool
     requires { ⌜ Valid (here records children text used) ⌝ }
 {
-    if !script::has_words(m, 1) {
+    if !words::has_words(call, call.m, 1) {
         return false;
     }
-    let word = script::read_word(fd);
+    let word = words::read_word(call);
     if !word.ok {
         return false;
     }
     let of = element::summarize(records, children, text, used, word.value);
     match of {
         Summarized::Of(it) => {
-            if op == 60 {
-                show::put_summary(it);
+            if call.op == 60 {
+                show::put_summary(out, end, it);
             } else {
-                show::put_mark(it.hash);
+                show::put_mark(out, end, it.hash);
             }
         }
-        Summarized::Refused(why) => show::put_refused(why),
+        Summarized::Refused(why) => show::put_refused(out, end, why),
     }
     true
 }

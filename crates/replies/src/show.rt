@@ -1,155 +1,100 @@
-// The lines of replies. What a program prints is compared with stored output and not proved. A line is put together in a
-// buffer, so that it costs one write.
+// The lines of replies. What a program prints is compared with stored output and not proved.
 
-ghost use Prim.Native.Nat.{_≤_};
-ghost use lib.ListN.{length};
 use builder::state::EventAnswer;
+use files::out;
 use green::Counts;
 use green::element::Summary;
-use libc::STDOUT_FILENO;
 use sheet_run::Ended;
 use utility_types::Made;
 use utility_types::Refusal;
+use utility_types::SyntaxKind;
 use utility_types::refusal_number;
 
-// Adds to a line of `n` bytes; how long it is then.
-pub fn add(line: &mut [u8], n: usize, bytes: &[u8]) -> usize
-    requires { ⌜ n ≤ length (now line) ⌝ }
-    ensures { λ r. ⌜ r ≤ length (now (line .exit)) ⌝ }
-{
-    let mut at = n;
-    let mut i = 0;
-    while i < bytes.len() {
-        if at == line.len() {
-            return at;
-        }
-        line[at] = bytes[i];
-        at += 1;
-        i += 1;
+// A space and a number.
+pub fn put_number(out: &mut [u8], end: &mut usize, number: usize) {
+    out::put_number(out, end, b" ", number as u64);
+}
+
+// Ends a line with the counts in use.
+fn put_counts(out: &mut [u8], end: &mut usize, used: &Counts) {
+    put_number(out, end, used[0]);
+    put_number(out, end, used[1]);
+    put_number(out, end, used[2]);
+    out::put(out, end, b"\n");
+}
+
+fn put_yielded(out: &mut [u8], end: &mut usize, answer: EventAnswer) {
+    match answer {
+        EventAnswer::Yielded(number) => out::put_number(out, end, b"e ", number as u64),
+        _ => out::put(out, end, b"e -"),
     }
-    at
-}
-
-// Adds a space and a number.
-pub fn add_number(line: &mut [u8], n: usize, number: u64) -> usize
-    requires { ⌜ n ≤ length (now line) ⌝ }
-    ensures { λ r. ⌜ r ≤ length (now (line .exit)) ⌝ }
-{
-    let mut digits = [0u8; 20];
-    let k = io::decimal(number, &mut digits);
-    let m = add(line, n, b" ");
-    add(line, m, &digits[..k])
-}
-
-pub fn put(line: &[u8]) {
-    io::write_all(STDOUT_FILENO, line);
-}
-
-// Writes the first `n` bytes of a line.
-pub fn put_first(line: &[u8], n: usize)
-    requires { ⌜ n ≤ length (now line) ⌝ }
-{
-    put(&line[..n]);
-}
-
-// Adds the counts in use, ends the line and writes it.
-fn put_counts(line: &mut [u8], n: usize, used: &Counts)
-    requires { ⌜ n ≤ length (now line) ⌝ }
-{
-    let a = add_number(line, n, used[0] as u64);
-    let b = add_number(line, a, used[1] as u64);
-    let c = add_number(line, b, used[2] as u64);
-    let d = add(line, c, b"\n");
-    put_first(line, d);
 }
 
 // An accepted event: what it yields, and the counts in use after it.
-pub fn put_event(answer: EventAnswer, used: &Counts) {
-    let mut space = [0u8; 128];
-    let line: &mut [u8] = &mut space;
-    match answer {
-        EventAnswer::Yielded(number) => {
-            let a = add(line, 0, b"e");
-            let b = add_number(line, a, number as u64);
-            put_counts(line, b, used);
-        }
-        _ => {
-            let a = add(line, 0, b"e -");
-            put_counts(line, a, used);
+pub fn put_event(out: &mut [u8], end: &mut usize, answer: EventAnswer, used: &Counts) {
+    put_yielded(out, end, answer);
+    put_counts(out, end, used);
+}
+
+fn put_outcome(out: &mut [u8], end: &mut usize, ended: Ended) {
+    match ended {
+        Ended::Root(root) => out::put_number(out, end, b"root ", root as u64),
+        Ended::Refused(why, event) => {
+            out::put_number(out, end, b"refused ", refusal_number(why));
+            out::put_number(out, end, b" event ", event as u64);
         }
     }
 }
 
 // How a run ended, and the counts in use after it.
-pub fn put_ended(ended: Ended, used: &Counts) {
-    let mut space = [0u8; 128];
-    let line: &mut [u8] = &mut space;
-    match ended {
-        Ended::Root(root) => {
-            let a = add(line, 0, b"root");
-            let b = add_number(line, a, root as u64);
-            let c = add(line, b, b" store");
-            put_counts(line, c, used);
-        }
-        Ended::Refused(why, event) => {
-            let a = add(line, 0, b"refused");
-            let b = add_number(line, a, refusal_number(why));
-            let c = add(line, b, b" event");
-            let d = add_number(line, c, event as u64);
-            let e = add(line, d, b" store");
-            put_counts(line, e, used);
-        }
+pub fn put_ended(out: &mut [u8], end: &mut usize, ended: Ended, used: &Counts) {
+    put_outcome(out, end, ended);
+    out::put(out, end, b" store");
+    put_counts(out, end, used);
+}
+
+fn put_new(out: &mut [u8], end: &mut usize, made: Made) {
+    match made {
+        Made::Number(number) => out::put_number(out, end, b"element ", number as u64),
+        Made::Refused(why) => out::put_number(out, end, b"refused ", refusal_number(why)),
     }
 }
 
 // What an edit made, or why it was turned down, and the counts in use after it.
-pub fn put_made(made: Made, used: &Counts) {
-    let mut space = [0u8; 128];
-    let line: &mut [u8] = &mut space;
-    match made {
-        Made::Number(number) => {
-            let a = add(line, 0, b"element");
-            let b = add_number(line, a, number as u64);
-            let c = add(line, b, b" store");
-            put_counts(line, c, used);
-        }
-        Made::Refused(why) => {
-            let a = add(line, 0, b"refused");
-            let b = add_number(line, a, refusal_number(why));
-            let c = add(line, b, b" store");
-            put_counts(line, c, used);
-        }
+pub fn put_made(out: &mut [u8], end: &mut usize, made: Made, used: &Counts) {
+    put_new(out, end, made);
+    out::put(out, end, b" store");
+    put_counts(out, end, used);
+}
+
+pub fn put_refused(out: &mut [u8], end: &mut usize, why: Refusal) {
+    out::put_number(out, end, b"refused ", refusal_number(why));
+    out::put(out, end, b"\n");
+}
+
+// Whether an element is a node or a token, and its kind.
+pub fn put_kind(out: &mut [u8], end: &mut usize, is_node: bool, kind: SyntaxKind) {
+    if is_node {
+        out::put_number(out, end, b"node ", kind.0 as u64);
+    } else {
+        out::put_number(out, end, b"token ", kind.0 as u64);
     }
-}
-
-pub fn put_refused(why: Refusal) {
-    put(b"refused ");
-    io::print_decimal(STDOUT_FILENO, refusal_number(why));
-    put(b"\n");
-}
-
-pub fn put_number(number: usize) {
-    put(b" ");
-    io::print_decimal(STDOUT_FILENO, number as u64);
 }
 
 // What a record keeps of its element.
-pub fn put_summary(it: Summary) {
-    if it.is_node {
-        put(b"node");
-    } else {
-        put(b"token");
-    }
-    put_number(it.kind.0 as usize);
-    put_number(it.len);
-    put_number(it.size);
-    put_number(it.height);
-    put_number(it.children);
-    put(b"\n");
+pub fn put_summary(out: &mut [u8], end: &mut usize, it: Summary) {
+    put_kind(out, end, it.is_node, it.kind);
+    put_number(out, end, it.len);
+    put_number(out, end, it.size);
+    put_number(out, end, it.height);
+    put_number(out, end, it.children);
+    out::put(out, end, b"\n");
 }
 
-pub fn put_mark(hash: u64) {
-    put(b"mark ");
-    io::print_hex(STDOUT_FILENO, hash, 16);
-    put(b"\n");
+pub fn put_mark(out: &mut [u8], end: &mut usize, hash: u64) {
+    out::put(out, end, b"mark ");
+    let mut digits = [0u8; 16];
+    let n = io::hex(hash, 16, &mut digits);
+    out::put(out, end, &digits[..n]);
+    out::put(out, end, b"\n");
 }

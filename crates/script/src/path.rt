@@ -2,12 +2,13 @@
 
 ghost use Prim.Native.Nat.{_≤_};
 ghost use lib.ListN.{length};
-use crate::complain;
-use crate::has_words;
-use crate::least;
-use crate::pass_over;
-use crate::read_words;
-use crate::take_word;
+use crate::call::Call;
+use crate::words::has_words;
+use crate::words::least;
+use crate::words::misfit;
+use crate::words::pass_over;
+use crate::words::read_words;
+use crate::words::take_word;
 
 // A path whose first 64 indexes were put into a lent place; `left` of the call's words come after it.
 pub struct Path {
@@ -27,32 +28,32 @@ fn no_path() -> Path {
 }
 
 // Puts indexes into a lent place. Those past 64 are passed over: so long a path names no element. Whether all came.
-fn read_indexes(fd: i32, path: &mut [u32], count: usize) -> bool
+fn read_indexes(call: Call, path: &mut [u32], count: usize) -> bool
     requires { ⌜ 64 ≤ length (now path) ⌝ }
 {
     let kept = least(count, 64);
-    if !read_words(fd, path, kept) {
+    if !read_words(call, path, kept) {
         return false;
     }
-    pass_over(fd, count - kept)
+    pass_over(call, count - kept)
 }
 
 // A path of a call with `m` words left.
-pub fn read_path(fd: i32, path: &mut [u32; 64], m: usize) -> Path {
-    let root = take_word(fd, m);
+pub fn read_path(call: Call, path: &mut [u32; 64], m: usize) -> Path {
+    let root = take_word(call, m);
     if !root.ok {
         return no_path();
     }
-    let count = take_word(fd, root.left);
+    let count = take_word(call, root.left);
     if !count.ok {
         return no_path();
     }
     let depth = count.value;
     if count.left < depth {
-        complain(b"a call's lengths do not fit its words");
+        misfit(call);
         return no_path();
     }
-    if !read_indexes(fd, path, depth) {
+    if !read_indexes(call, path, depth) {
         return no_path();
     }
     Path {
@@ -64,9 +65,9 @@ pub fn read_path(fd: i32, path: &mut [u32; 64], m: usize) -> Path {
 }
 
 // The same where nothing comes after it.
-pub fn read_last_path(fd: i32, path: &mut [u32; 64], m: usize) -> Path {
-    let read = read_path(fd, path, m);
-    if !read.ok || !has_words(read.left, 0) {
+pub fn read_last_path(call: Call, path: &mut [u32; 64], m: usize) -> Path {
+    let read = read_path(call, path, m);
+    if !read.ok || !has_words(call, read.left, 0) {
         return no_path();
     }
     read

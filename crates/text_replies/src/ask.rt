@@ -5,40 +5,45 @@ ghost use Rattle.green.specs.Store.{here};
 ghost use Rattle.green.specs.Valid.{Valid};
 use crate::slot;
 use crate::slot::Text;
+use files::out;
 use green::Counts;
 use query::question::Question;
 use query::reply::Reply;
 use query_replies::line;
 use replies::show;
 use replies::slots;
-use script::Taken;
+use script::call::Call;
+use script::words;
+use script::words::Taken;
 
 // What stands before a number.
-fn put_name(op: u32) {
+fn put_name(out: &mut [u8], end: &mut usize, op: u32) {
     match op {
-        52 => show::put(b"length"),
-        56 => show::put(b"at"),
-        _ => show::put(b"char"),
+        52 => out::put(out, end, b"length"),
+        56 => out::put(out, end, b"at"),
+        _ => out::put(out, end, b"char"),
     }
 }
 
 // The reply to call `op`.
-fn put_reply(reply: Reply, op: u32) {
+fn put_reply(out: &mut [u8], end: &mut usize, reply: Reply, op: u32) {
     match reply {
-        Reply::None => show::put(b"none\n"),
+        Reply::None => out::put(out, end, b"none\n"),
         Reply::Number(n) => {
-            put_name(op);
-            show::put_number(n);
-            show::put(b"\n");
+            put_name(out, end, op);
+            show::put_number(out, end, n);
+            out::put(out, end, b"\n");
         }
-        Reply::Truth(is_so) => line::put_truth(is_so),
-        Reply::Refused(why) => show::put_refused(why),
-        _ => show::put(b"-\n"),
+        Reply::Truth(is_so) => line::put_truth(out, end, is_so),
+        Reply::Refused(why) => show::put_refused(out, end, why),
+        _ => out::put(out, end, b"-\n"),
     }
 }
 
 // Puts a question to the text `it` of a slot.
 fn put_to(
+    out: &mut [u8],
+    end: &mut usize,
     records: &[u64],
     children: &[u64],
     text: &[u8],
@@ -54,7 +59,7 @@ fn put_to(
     let mut path = [0u32; 64];
     slots::copy_out(paths, slot, &mut path);
     let mut other = [0u32; 64];
-    let reply = query::query(
+    let reply = query_replies::ask(
         records,
         children,
         text,
@@ -65,11 +70,13 @@ fn put_to(
         it.depth,
         question,
     );
-    put_reply(reply, op);
+    put_reply(out, end, reply, op);
 }
 
 // Whether the texts `it` and `its` of two slots are equal.
 fn compare(
+    out: &mut [u8],
+    end: &mut usize,
     records: &[u64],
     children: &[u64],
     text: &[u8],
@@ -87,7 +94,7 @@ fn compare(
     let mut other = [0u32; 64];
     slots::copy_out(paths, second, &mut other);
     let question = Question::EqualText(it.start, it.end, its.root, its.depth, its.start, its.end);
-    let reply = query::query(
+    let reply = query_replies::ask(
         records,
         children,
         text,
@@ -98,12 +105,14 @@ fn compare(
         it.depth,
         question,
     );
-    put_reply(reply, 58);
+    put_reply(out, end, reply, 58);
 }
 
 // Call 58: the word is another text's slot. Whether the script goes on, here and below.
 fn equal(
-    fd: i32,
+    call: Call,
+    out: &mut [u8],
+    end: &mut usize,
     records: &[u64],
     children: &[u64],
     text: &[u8],
@@ -115,39 +124,54 @@ fn equal(
 ) -> bool
     requires { ⌜ Valid (here records children text used) × (slot < 8) ⌝ }
 {
-    let word = script::take_below(fd, m, 4);
-    if !word.ok || !script::has_words(word.left, 0) {
+    let word = words::take_below(call, m, 4);
+    if !word.ok || !words::has_words(call, word.left, 0) {
         return false;
     }
     let second = word.value + 4;
     let it = slot::read(slots, slot);
     let its = slot::read(slots, second);
     if !it.is_there || !its.is_there {
-        show::put(b"no text\n");
+        out::put(out, end, b"no text\n");
         return true;
     }
-    compare(records, children, text, used, paths, slot, it, second, its);
+    compare(
+        out,
+        end,
+        records,
+        children,
+        text,
+        used,
+        paths,
+        slot,
+        it,
+        second,
+        its,
+    );
     true
 }
 
 // What comes after the slot: nothing, a byte or an offset.
-fn read_argument(fd: i32, op: u32, m: usize) -> Taken
+fn read_argument(call: Call, m: usize) -> Taken
     ensures { λ r. ⌜ r .value < 2 ^ 32 ⌝ }
 {
+    let op = call.op;
     match op {
         52 => Taken {
             ok: true,
             value: 0,
             left: m,
         },
-        57 => script::take_word(fd, m),
-        _ => script::take_below(fd, m, 256),
+        57 => words::take_word(call, m),
+        _ => words::take_below(call, m, 256),
     }
 }
 
 // Reads the words that are left of call `op`, and prints the reply.
 pub fn answer(
-    fd: i32,
+    call: Call,
+    out: &mut [u8],
+    end: &mut usize,
     records: &[u64],
     children: &[u64],
     text: &[u8],
@@ -155,21 +179,33 @@ pub fn answer(
     slots: &[usize; 64],
     paths: &[u32; 512],
     slot: usize,
-    op: u32,
     m: usize,
 ) -> bool
     requires { ⌜ Valid (here records children text used) × (slot < 8) ⌝ }
 {
+    let op = call.op;
     if op == 58 {
-        return equal(fd, records, children, text, used, slots, paths, slot, m);
+        return equal(
+            call,
+            out,
+            end,
+            records,
+            children,
+            text,
+            used,
+            slots,
+            paths,
+            slot,
+            m,
+        );
     }
-    let word = read_argument(fd, op, m);
-    if !word.ok || !script::has_words(word.left, 0) {
+    let word = read_argument(call, m);
+    if !word.ok || !words::has_words(call, word.left, 0) {
         return false;
     }
     let it = slot::read(slots, slot);
     if !it.is_there {
-        show::put(b"no text\n");
+        out::put(out, end, b"no text\n");
         return true;
     }
     let x = word.value;
@@ -179,6 +215,18 @@ pub fn answer(
         56 => Question::Find(it.start, it.end, x as u32),
         _ => Question::CharAt(it.start, it.end, x),
     };
-    put_to(records, children, text, used, paths, slot, it, question, op);
+    put_to(
+        out,
+        end,
+        records,
+        children,
+        text,
+        used,
+        paths,
+        slot,
+        it,
+        question,
+        op,
+    );
     true
 }

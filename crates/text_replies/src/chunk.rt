@@ -5,28 +5,33 @@ ghost use Rattle.green.specs.Store.{here};
 ghost use Rattle.green.specs.Valid.{Valid};
 use crate::slot;
 use crate::slot::Text;
+use files::out;
 use green::Counts;
 use replies::bytes;
 use replies::show;
 use replies::slots;
+use script::call::Call;
+use script::words;
 use syntax_text_chunks::chunks;
 
 // A chunk's bytes, or by its outcome why there is none: 1 says the end, any other number is a refusal's.
-fn put_chunk(outcome: usize, chunk: &[u8]) {
+fn put_chunk(out: &mut [u8], end: &mut usize, outcome: usize, chunk: &[u8]) {
     if outcome == 0 {
-        show::put(b"chunk");
-        bytes::put_bytes(chunk);
+        out::put(out, end, b"chunk");
+        bytes::put_bytes(out, end, chunk);
     } else if outcome == 1 {
-        show::put(b"ended\n");
+        out::put(out, end, b"ended\n");
     } else {
-        show::put(b"refused");
-        show::put_number(outcome);
-        show::put(b"\n");
+        out::put(out, end, b"refused");
+        show::put_number(out, end, outcome);
+        out::put(out, end, b"\n");
     }
 }
 
 // The first chunk: a state that keeps no place.
 fn first(
+    out: &mut [u8],
+    end: &mut usize,
     records: &[u64],
     children: &[u64],
     text: &[u8],
@@ -55,12 +60,14 @@ fn first(
         &mut kept,
         &mut outcome,
     );
-    put_chunk(outcome, chunk);
+    put_chunk(out, end, outcome, chunk);
     given
 }
 
 // A chunk after `before` + 1 others: the one before it is found by the count, and it by the place that was kept then.
 fn further(
+    out: &mut [u8],
+    end: &mut usize,
     records: &[u64],
     children: &[u64],
     text: &[u8],
@@ -105,11 +112,13 @@ fn further(
         &mut kept,
         &mut outcome,
     );
-    put_chunk(outcome, chunk);
+    put_chunk(out, end, outcome, chunk);
     given
 }
 
 fn next(
+    out: &mut [u8],
+    end: &mut usize,
     records: &[u64],
     children: &[u64],
     text: &[u8],
@@ -124,16 +133,29 @@ fn next(
     let mut path = [0u32; 64];
     slots::copy_out(paths, slot, &mut path);
     if it.given == 0 {
-        let given = first(records, children, text, used, it, &path);
+        let given = first(out, end, records, children, text, used, it, &path);
         slot::set_given(slots, slot, given);
         return;
     }
-    let given = further(records, children, text, used, it, &path, it.given - 1);
+    let given = further(
+        out,
+        end,
+        records,
+        children,
+        text,
+        used,
+        it,
+        &path,
+        it.given - 1,
+    );
     slot::set_given(slots, slot, given);
 }
 
 // No words are left. Whether the script goes on.
 pub fn answer(
+    call: Call,
+    out: &mut [u8],
+    end: &mut usize,
     records: &[u64],
     children: &[u64],
     text: &[u8],
@@ -141,24 +163,23 @@ pub fn answer(
     slots: &mut [usize; 64],
     paths: &[u32; 512],
     slot: usize,
-    op: u32,
     m: usize,
 ) -> bool
     requires { ⌜ Valid (here records children text used) × (slot < 8) ⌝ }
 {
-    if !script::has_words(m, 0) {
+    if !words::has_words(call, m, 0) {
         return false;
     }
     let it = slot::read(slots, slot);
     if !it.is_there {
-        show::put(b"no text\n");
+        out::put(out, end, b"no text\n");
         return true;
     }
-    if op == 53 {
+    if call.op == 53 {
         slot::set_given(slots, slot, 0);
-        show::put(b"ok\n");
+        out::put(out, end, b"ok\n");
     } else {
-        next(records, children, text, used, slots, paths, slot);
+        next(out, end, records, children, text, used, slots, paths, slot);
     }
     true
 }

@@ -1,14 +1,18 @@
-// What `replay` answers to the texts of a script: calls 50 to 58. A text stays in its slot from call to call.
+// What `replay` answers to the texts of a script: calls 50 to 58. A text stays in its slot from call to call. Here texts and
+// slices are put into slots; `slot` has how they are kept there, `ask` the questions about them, `chunk` their chunks.
 
 ghost use Prim.Native.Nat.{_<_};
 ghost use Rattle.green.specs.Store.{here};
 ghost use Rattle.green.specs.Valid.{Valid};
+use files::out;
 use green::Counts;
 use query::question::Question;
 use query::reply::Reply;
 use replies::show;
 use replies::slots;
+use script::call::Call;
 use script::path;
+use script::words;
 
 pub mod ask;
 pub mod chunk;
@@ -16,25 +20,35 @@ pub mod slot;
 
 // Puts a text into a slot, or empties it if there is none; prints which. No other reply comes. The text's path is in the
 // slot already.
-fn keep(slots: &mut [usize; 64], slot: usize, reply: Reply, root: usize, depth: usize)
+fn keep(
+    out: &mut [u8],
+    end: &mut usize,
+    slots: &mut [usize; 64],
+    slot: usize,
+    reply: Reply,
+    root: usize,
+    depth: usize,
+)
     requires { ⌜ slot < 8 ⌝ }
 {
     match reply {
-        Reply::Text(start, end) => {
-            slot::write(slots, slot, root, depth, start, end);
-            show::put(b"ok\n");
+        Reply::Text(from, to) => {
+            slot::write(slots, slot, root, depth, from, to);
+            out::put(out, end, b"ok\n");
         }
         Reply::Refused(why) => {
             slot::empty(slots, slot);
-            show::put_refused(why);
+            show::put_refused(out, end, why);
         }
-        _ => show::put(b"-\n"),
+        _ => out::put(out, end, b"-\n"),
     }
 }
 
 // Call 50: the words are a path. Whether the script goes on, here and below.
 fn text_of(
-    fd: i32,
+    call: Call,
+    out: &mut [u8],
+    end: &mut usize,
     records: &[u64],
     children: &[u64],
     text: &[u8],
@@ -47,13 +61,13 @@ fn text_of(
     requires { ⌜ Valid (here records children text used) × (slot < 8) ⌝ }
 {
     let mut path = [0u32; 64];
-    let of = path::read_last_path(fd, &mut path, m);
+    let of = path::read_last_path(call, &mut path, m);
     if !of.ok {
         return false;
     }
     slots::copy_in(paths, slot, &path);
     let mut other = [0u32; 64];
-    let reply = query::query(
+    let reply = query_replies::ask(
         records,
         children,
         text,
@@ -64,12 +78,14 @@ fn text_of(
         of.depth,
         Question::Text,
     );
-    keep(slots, slot, reply, of.root, of.depth);
+    keep(out, end, slots, slot, reply, of.root, of.depth);
     true
 }
 
 // The slice from one offset to another of the text in a slot, for slot `to`.
 fn put_slice(
+    out: &mut [u8],
+    end: &mut usize,
     records: &[u64],
     children: &[u64],
     text: &[u8],
@@ -86,7 +102,7 @@ fn put_slice(
     let it = slot::read(slots, of);
     if !it.is_there {
         slot::empty(slots, to);
-        show::put(b"no text\n");
+        out::put(out, end, b"no text\n");
         return;
     }
     let mut path = [0u32; 64];
@@ -94,7 +110,7 @@ fn put_slice(
     slots::copy_in(paths, to, &path);
     let mut other = [0u32; 64];
     let question = Question::Slice(it.start, it.end, from, until);
-    let reply = query::query(
+    let reply = query_replies::ask(
         records,
         children,
         text,
@@ -105,12 +121,14 @@ fn put_slice(
         it.depth,
         question,
     );
-    keep(slots, to, reply, it.root, it.depth);
+    keep(out, end, slots, to, reply, it.root, it.depth);
 }
 
 // Call 51: the words are a text's slot, a start and an end.
 fn slice(
-    fd: i32,
+    call: Call,
+    out: &mut [u8],
+    end: &mut usize,
     records: &[u64],
     children: &[u64],
     text: &[u8],
@@ -122,19 +140,21 @@ fn slice(
 ) -> bool
     requires { ⌜ Valid (here records children text used) × (to < 8) ⌝ }
 {
-    let of = script::take_below(fd, m, 4);
+    let of = words::take_below(call, m, 4);
     if !of.ok {
         return false;
     }
-    let from = script::take_word(fd, of.left);
-    if !from.ok || !script::has_words(from.left, 1) {
+    let from = words::take_word(call, of.left);
+    if !from.ok || !words::has_words(call, from.left, 1) {
         return false;
     }
-    let until = script::read_word(fd);
+    let until = words::read_word(call);
     if !until.ok {
         return false;
     }
     put_slice(
+        out,
+        end,
         records,
         children,
         text,
@@ -149,32 +169,31 @@ fn slice(
     true
 }
 
-// Reads the `m` words of call `op`, and prints the reply.
 pub fn answer(
-    fd: i32,
+    call: Call,
+    out: &mut [u8],
+    end: &mut usize,
     records: &[u64],
     children: &[u64],
     text: &[u8],
     used: &Counts,
     slots: &mut [usize; 64],
     paths: &mut [u32; 512],
-    op: u32,
-    m: usize,
 ) -> bool
     requires { ⌜ Valid (here records children text used) ⌝ }
 {
-    let word = script::take_below(fd, m, 4);
+    let op = call.op;
+    let word = words::take_below(call, call.m, 4);
     if !word.ok {
         return false;
     }
     let slot = word.value + 4;
     let left = word.left;
     match op {
-        50 => text_of(fd, records, children, text, used, slots, paths, slot, left),
-        51 => slice(fd, records, children, text, used, slots, paths, slot, left),
-        53 | 54 => chunk::answer(records, children, text, used, slots, paths, slot, op, left),
-        _ => ask::answer(
-            fd,
+        50 => text_of(
+            call,
+            out,
+            end,
             records,
             children,
             text,
@@ -182,7 +201,45 @@ pub fn answer(
             slots,
             paths,
             slot,
-            op,
+            left,
+        ),
+        51 => slice(
+            call,
+            out,
+            end,
+            records,
+            children,
+            text,
+            used,
+            slots,
+            paths,
+            slot,
+            left,
+        ),
+        53 | 54 => chunk::answer(
+            call,
+            out,
+            end,
+            records,
+            children,
+            text,
+            used,
+            slots,
+            paths,
+            slot,
+            left,
+        ),
+        _ => ask::answer(
+            call,
+            out,
+            end,
+            records,
+            children,
+            text,
+            used,
+            slots,
+            paths,
+            slot,
             left,
         ),
     }

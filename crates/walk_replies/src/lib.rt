@@ -1,8 +1,10 @@
-// What `replay` answers to the walks of a script: calls 40 to 42. A walk stays in its slot from call to call.
+// What `replay` answers to the walks of a script: calls 40 to 42. A walk stays in its slot from call to call; `slot` has how
+// it is kept there.
 
 ghost use Prim.Native.Nat.{_<_};
 ghost use Rattle.green.specs.Store.{here};
 ghost use Rattle.green.specs.Valid.{Valid};
+use files::out;
 use green::Counts;
 use preorder::state::Answer;
 use preorder::state::Moved;
@@ -12,34 +14,46 @@ use query::reply::Reply;
 use query_replies::line;
 use replies::show;
 use replies::slots;
+use script::call::Call;
 use script::path;
-use utility_types::SyntaxElement;
+use script::words;
 use utility_types::WalkEvent;
 
 pub mod slot;
 
 // Puts a walk that has begun into a slot, or empties it if none has; prints which. No other reply comes. The path of the
 // walk's start is in the slot already.
-fn keep(slots: &mut [usize; 64], slot: usize, reply: Reply, root: usize, tokens: bool, start: usize)
+fn keep(
+    out: &mut [u8],
+    end: &mut usize,
+    slots: &mut [usize; 64],
+    slot: usize,
+    reply: Reply,
+    root: usize,
+    tokens: bool,
+    start: usize,
+)
     requires { ⌜ slot < 4 ⌝ }
 {
     match reply {
         Reply::Walk(ahead) => {
             let coming = ahead.coming;
             slot::write(slots, slot, root, tokens, start, coming, ahead.depth);
-            show::put(b"ok\n");
+            out::put(out, end, b"ok\n");
         }
         Reply::Refused(why) => {
             slot::empty(slots, slot);
-            show::put_refused(why);
+            show::put_refused(out, end, why);
         }
-        _ => show::put(b"-\n"),
+        _ => out::put(out, end, b"-\n"),
     }
 }
 
 // The words are a mode and a path. Whether the script goes on.
 fn begin(
-    fd: i32,
+    call: Call,
+    out: &mut [u8],
+    end: &mut usize,
     records: &[u64],
     children: &[u64],
     text: &[u8],
@@ -51,19 +65,19 @@ fn begin(
 ) -> bool
     requires { ⌜ Valid (here records children text used) × (slot < 4) ⌝ }
 {
-    let mode = script::take_below(fd, m, 2);
+    let mode = words::take_below(call, m, 2);
     if !mode.ok {
         return false;
     }
     let mut path = [0u32; 64];
-    let of = path::read_last_path(fd, &mut path, mode.left);
+    let of = path::read_last_path(call, &mut path, mode.left);
     if !of.ok {
         return false;
     }
     slots::copy_in(paths, slot, &path);
     let mut other = [0u32; 64];
     let tokens = mode.value == 1;
-    let reply = query::query(
+    let reply = query_replies::ask(
         records,
         children,
         text,
@@ -74,32 +88,25 @@ fn begin(
         of.depth,
         Question::Walk(tokens),
     );
-    keep(slots, slot, reply, of.root, tokens, of.depth);
+    keep(out, end, slots, slot, reply, of.root, tokens, of.depth);
     true
 }
 
-fn put_event(name: &[u8], it: SyntaxElement, path: &[u32; 64]) {
-    // room for 64 indexes of any 32 bits, and what stands before them
-    let mut space = [0u8; 800];
-    let line: &mut [u8] = &mut space;
-    let a = show::add(line, 0, name);
-    let b = line::add_element(line, a, it, path);
-    line::put_line(line, b);
-}
-
 // What a walk gives, by the path of what came.
-fn put_answer(answer: Answer, path: &[u32; 64]) {
+fn put_answer(out: &mut [u8], end: &mut usize, answer: Answer, path: &[u32; 64]) {
     match answer {
         Answer::Event(event) => match event {
-            WalkEvent::Enter(it) => put_event(b"enter ", it, path),
-            WalkEvent::Leave(it) => put_event(b"leave ", it, path),
+            WalkEvent::Enter(it) => line::put_line(out, end, b"enter ", it, path),
+            WalkEvent::Leave(it) => line::put_line(out, end, b"leave ", it, path),
         },
-        Answer::Ended => show::put(b"ended\n"),
-        Answer::Refused(why) => show::put_refused(why),
+        Answer::Ended => out::put(out, end, b"ended\n"),
+        Answer::Refused(why) => show::put_refused(out, end, why),
     }
 }
 
 fn next(
+    out: &mut [u8],
+    end: &mut usize,
     records: &[u64],
     children: &[u64],
     text: &[u8],
@@ -112,7 +119,7 @@ fn next(
 {
     let it = slot::read(slots, slot);
     if !it.is_there {
-        show::put(b"no walk\n");
+        out::put(out, end, b"no walk\n");
         return;
     }
     let mut path = [0u32; 64];
@@ -136,15 +143,15 @@ fn next(
     let then = step.coming;
     slot::write(slots, slot, it.root, it.tokens, it.start, then, step.depth);
     let answer = step.answer;
-    put_answer(answer, &came);
+    put_answer(out, end, answer, &came);
 }
 
-fn skip(slots: &mut [usize; 64], slot: usize)
+fn skip(out: &mut [u8], end: &mut usize, slots: &mut [usize; 64], slot: usize)
     requires { ⌜ slot < 4 ⌝ }
 {
     let it = slot::read(slots, slot);
     if !it.is_there {
-        show::put(b"no walk\n");
+        out::put(out, end, b"no walk\n");
         return;
     }
     let coming = it.coming;
@@ -153,42 +160,54 @@ fn skip(slots: &mut [usize; 64], slot: usize)
         Moved::To(ahead) => {
             let then = ahead.coming;
             slot::write(slots, slot, it.root, it.tokens, it.start, then, ahead.depth);
-            show::put(b"ok\n");
+            out::put(out, end, b"ok\n");
         }
-        Moved::Refused(why) => show::put_refused(why),
+        Moved::Refused(why) => show::put_refused(out, end, why),
     }
 }
 
-// Reads the `m` words of call `op`, and prints the reply. Whether the script goes on.
+// Whether the script goes on.
 pub fn answer(
-    fd: i32,
+    call: Call,
+    out: &mut [u8],
+    end: &mut usize,
     records: &[u64],
     children: &[u64],
     text: &[u8],
     used: &Counts,
     slots: &mut [usize; 64],
     paths: &mut [u32; 512],
-    op: u32,
-    m: usize,
 ) -> bool
     requires { ⌜ Valid (here records children text used) ⌝ }
 {
-    let word = script::take_below(fd, m, 4);
+    let word = words::take_below(call, call.m, 4);
     if !word.ok {
         return false;
     }
     let slot = word.value;
     let left = word.left;
-    if op == 40 {
-        return begin(fd, records, children, text, used, slots, paths, slot, left);
+    if call.op == 40 {
+        return begin(
+            call,
+            out,
+            end,
+            records,
+            children,
+            text,
+            used,
+            slots,
+            paths,
+            slot,
+            left,
+        );
     }
-    if !script::has_words(left, 0) {
+    if !words::has_words(call, left, 0) {
         return false;
     }
-    if op == 41 {
-        next(records, children, text, used, slots, paths, slot);
+    if call.op == 41 {
+        next(out, end, records, children, text, used, slots, paths, slot);
     } else {
-        skip(slots, slot);
+        skip(out, end, slots, slot);
     }
     true
 }

@@ -8,7 +8,7 @@ use Rattle.edit_replies.proofs.splice.Statement.{statement}
 use Rattle.edit_replies.proofs.splice.Tie as tie
 
 slice-aggregate-splice-children : tie.Need-slice-aggregate-splice-children
-slice-aggregate-splice-children c = let h : c .before .before .before .before .before .before .before .before .before .before .before .take-word3 .result .left ≤ length (c .before .before .before .before .before .before .read-words .last .1 .0) = search needs in sym (length-take-le _ _ h)
+slice-aggregate-splice-children c = let h : (c .before .before .before .before .before .before .before .before .before .before .read-range .result .count) ≤ length (c .before .before .before .before .before .before .read-words .last .1 .0) = search needs in sym (length-take-le _ _ h)
 
 pub splice-spec : {M : Type 1} → statement M
 splice-spec =
@@ -18,18 +18,11 @@ splice-spec =
     (λ c. search needs)
     (λ c κs. search needs)
     (λ c. search needs)
-    (λ c κs. search needs)
-    (λ c. search needs)
-    (λ c. search needs)
-    (λ c κs. search needs)
-    (λ c. search needs)
-    (λ c. search needs)
-    (λ c κs. search needs)
-    (λ c. search needs)
     (λ c. search needs)
     slice-aggregate-splice-children
     (λ c κs. search needs)
     (λ c κs. search needs)
+    (λ c. search needs)
     (λ c. search needs)
     (λ c. search needs)
     (λ c. search needs))

@@ -1,21 +1,16 @@
--- `put_digits` is safe and ends: the bytes that are left fall. Assumes nothing.
+-- `put_digits` is safe and ends. Assumes nothing.
 use Prim.Native.Nat.{_-_}
+use mathlib.Core.Path.{_≡_}
 use lib.ListN.{length}
 use borrow.Author.Needs.{needs}
 use Rattle.replies.proofs.bytes.put_digits.Statement.{statement}
 use Rattle.replies.proofs.bytes.put_digits.Tie as tie
 
 abbrev Inv-loop : tie.InvT-loop
-Inv-loop bytes at₀ at = Unit {0}
+Inv-loop out₀ end₀ bytes i₀ out end i = length out ≡ length out₀
 
 abbrev μ-loop : tie.MeasureT-loop
-μ-loop bytes at₀ at = length bytes - at
-
-loop-holds : tie.Need-loop-holds Inv-loop μ-loop
-loop-holds c = tt
-
-loop-again : tie.Need-loop-again Inv-loop μ-loop
-loop-again c = tt
+μ-loop out₀ end₀ bytes i₀ out end i = length bytes - i
 
 pub put-digits-spec : {M : Type 1} → statement M
 put-digits-spec =
@@ -23,13 +18,11 @@ put-digits-spec =
     (tie.spec
     Inv-loop
     μ-loop
-    loop-holds
-    (λ c. search needs)
-    (λ c κs. search needs)
-    (λ c. search needs)
     (λ c. search needs)
     (λ c. search needs)
     (λ c κs. search needs)
     (λ c. search needs)
-    loop-again
+    (λ c. search needs)
+    (λ c. search needs)
+    (λ c. search needs)
     (λ c. search needs))

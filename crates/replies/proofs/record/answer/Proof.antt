@@ -6,13 +6,13 @@ use Rattle.replies.proofs.record.answer.Statement.{statement}
 use Rattle.replies.proofs.record.answer.Tie as tie
 
 is-node-requires : tie.Need-is-node-requires
-is-node-requires c κs = known _ (c .before .before .before .before .before .before .before .before .before .before .pre) _ (c .if3 .left)
+is-node-requires c κs = known _ (c .before .before .before .before .before .before .before .before .before .before .before .pre) _ (c .if3 .left)
 
 put-node-requires : tie.Need-put-node-requires
-put-node-requires c κs = known _ (c .before .before .before .before .before .before .before .before .before .before .before .before .pre) _ (c .before .before .if3 .left)
+put-node-requires c κs = known _ (c .before .before .before .before .before .before .before .before .before .before .before .before .before .before .before .pre) _ (c .before .before .before .before .if3 .left)
 
 put-token-requires : tie.Need-put-token-requires
-put-token-requires c κs = (known _ (c .before .before .before .before .before .before .before .before .before .before .before .before .pre) _ (c .before .before .if3 .left), sym (c .before .is-node .ensures) ∙ c .if4 .left)
+put-token-requires c κs = (known _ (c .before .before .before .before .before .before .before .before .before .before .before .before .before .before .before .pre) _ (c .before .before .before .before .if3 .left), sym (c .before .before .before .is-node .ensures) ∙ (c .before .before .if4 .left))
 
 pub answer-spec : {M : Type 1} → statement M
 answer-spec =
@@ -25,8 +25,11 @@ answer-spec =
     (λ c. search needs)
     (λ c κs. search needs)
     (λ c. search needs)
+    (λ c. search needs)
     is-node-requires
     put-node-requires
     put-token-requires
+    (λ c. search needs)
+    (λ c. search needs)
     (λ c. search needs)
     (λ c. search needs))

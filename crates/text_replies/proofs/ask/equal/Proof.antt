@@ -5,7 +5,7 @@ use Rattle.text_replies.proofs.ask.equal.Statement.{statement}
 use Rattle.text_replies.proofs.ask.equal.Tie as tie
 
 compare-requires : tie.Need-compare-requires
-compare-requires c κs = (c .before .before .before .before .before .before .before .before .before .before .before .before .before .before .before .pre .0, c .before .before .before .before .before .before .before .before .before .before .before .before .before .before .before .pre .1, omega (arith, c .before .before .before .before .before .before .before .before .before .before .before .take-below .ensures))
+compare-requires c κs = (c .before .before .before .before .before .before .before .before .before .before .before .before .before .before .before .before .before .before .pre .0, (c .before .before .before .before .before .before .before .before .before .before .before .before .before .before .before .before .before .before .pre .1), omega (arith, (c .before .before .before .before .before .before .before .before .before .before .before .before .before .take-below .ensures)))
 
 pub equal-spec : {M : Type 1} → statement M
 equal-spec =
@@ -20,5 +20,7 @@ equal-spec =
     (λ c. search needs)
     (λ c κs. search needs)
     (λ c. search needs)
+    (λ c. search needs)
     compare-requires
+    (λ c. search needs)
     (λ c. search needs))

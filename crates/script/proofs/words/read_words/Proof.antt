@@ -3,14 +3,14 @@ use Prim.Native.Nat.{_-_}
 use mathlib.Core.Path.{_≡_, refl}
 use lib.ListN.{length}
 use borrow.Author.Needs.{needs}
-use Rattle.script.proofs.read_words.Statement.{statement}
-use Rattle.script.proofs.read_words.Tie as tie
+use Rattle.script.proofs.words.read_words.Statement.{statement}
+use Rattle.script.proofs.words.read_words.Tie as tie
 
 abbrev Inv-loop : tie.InvT-loop
-Inv-loop fd into₀ count i₀ into i = length into ≡ length into₀
+Inv-loop call into₀ count i₀ into i = length into ≡ length into₀
 
 abbrev μ-loop : tie.MeasureT-loop
-μ-loop fd into₀ count i₀ into i = count - i
+μ-loop call into₀ count i₀ into i = count - i
 
 loop-holds : tie.Need-loop-holds Inv-loop μ-loop
 loop-holds c = refl
