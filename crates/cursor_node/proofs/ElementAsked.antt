@@ -8,12 +8,11 @@ use lib.ListN.{getD, take}
 use Rattle.definitions.specs.Prelude.{ok, option}
 use Rattle.definitions.specs.Tree.{Tree}
 use Rattle.definitions.specs.Entry.{Entry, treeAt}
-use Rattle.definitions.specs.Element.{Element, shown}
+use Rattle.definitions.specs.Element.{Element}
 use Rattle.definitions.specs.Cursor.{parent, indexOf}
 use Rattle.definitions.specs.Query.{Question, ask, maybe}
 use Rattle.definitions.specs.Query as query
 use Rattle.green.specs.Store.{Store, entries}
-use Rattle.utility_types.specs.Elements.{shownAt}
 use Rattle.utility_types.specs.declared.SyntaxElement.{SyntaxElement}
 use Rattle.cursor.specs.declared.position.Cursor.{Cursor}
 use Rattle.cursor.specs.declared.position.Answer.the-variants as answer

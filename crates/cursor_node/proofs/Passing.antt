@@ -2,9 +2,8 @@
 use Prim.Native.Nat.{ℕ, suc, _-_, _≤_, _<_}
 use native.Mathlib.Omega.{arith}
 use mathlib.Core.Path.{_≡_, refl, sym, ap, _∙_}
-use mathlib.Core.List.{List, [], head?}
+use mathlib.Core.List.{List, head?}
 use mathlib.Core.Bool.{Bool, true, false}
-use mathlib.Core.Option.{none}
 use lib.ListN.{length, take, drop, getElem?}
 use Rattle.definitions.specs.Prelude.{filter}
 use Rattle.definitions.specs.Tree.{isNode}

@@ -1,11 +1,10 @@
 -- An element's siblings as they are asked for. Assumes nothing.
-use Prim.Native.Nat.{ℕ, suc, _+_, _-_, _≤_, _<_}
+use Prim.Native.Nat.{ℕ, suc, _+_, _-_, _<_}
 use native.Mathlib.Omega.{arith}
-use native.Mathlib.Numerals.{add-one}
 use mathlib.Core.Path.{_≡_, refl, sym, ap, _∙_}
 use mathlib.Core.List.{List}
 use mathlib.Core.Bool.{Bool, true, false}
-use mathlib.Core.Option.{none, some, bind}
+use mathlib.Core.Option.{bind}
 use lib.ListN.{length, getD, take, drop}
 use Rattle.definitions.specs.Prelude.{Result, refused, option}
 use Rattle.definitions.specs.Tree.{Tree, isNode}
@@ -27,11 +26,11 @@ use Rattle.cursor.specs.declared.path.Place.{Place}
 use Rattle.cursor.specs.declared.path.Located.{Located}
 use Rattle.cursor.specs.declared.path.Located.the-variants.{At}
 use Rattle.cursor.specs.declared.path.Located.the-variants as located
-use Rattle.cursor.specs.Position.{at, Inner, childCount}
+use Rattle.cursor.specs.Position.{at, childCount}
 use Rattle.cursor.specs.Path.{Leads}
 use Rattle.cursor.specs.Answers.{Tells, answerAtPath}
-use Rattle.cursor.proofs.Positions.{count-most, children-count}
-use Rattle.cursor.proofs.Telling.{none-told, told-as}
+use Rattle.cursor.proofs.Positions.{children-count}
+use Rattle.cursor.proofs.Telling.{told-as}
 use Rattle.cursor.proofs.Asking.{answer-none, answer-of, nowhere-named, located-named}
 use Rattle.cursor.proofs.AskingNodes.{ofNode-node, ofNode-token}
 use Rattle.cursor_node.specs.declared.siblings.ParentAndIndex.{ParentAndIndex}

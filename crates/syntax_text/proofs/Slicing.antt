@@ -6,8 +6,6 @@ use mathlib.Core.List.{List}
 use mathlib.Core.Bool.{Bool, true, false, cond, _&&_}
 use borrow.Author.Tests.{lt-ltb, le-ltb}
 use Rattle.definitions.specs.Prelude.{Result, ok, refused, andThen}
-use Rattle.definitions.specs.Tree.{Tree}
-use Rattle.definitions.specs.Entry.{treeAt}
 use Rattle.definitions.specs.Refusal.{isRangeOutside}
 use Rattle.definitions.specs.SyntaxText.{SyntaxText, ofText, len, slice, part, bytes, isCharBoundary}
 use Rattle.definitions.specs.Query.{TextQuestion, Answer, askText}

@@ -14,35 +14,11 @@ Inv-loop text h₀ i₀ h i = Taken text h₀ h i
 abbrev μ-loop : tie.MeasureT-loop
 μ-loop text h₀ i₀ h i = length text - i
 
-kind-hash-requires : tie.Need-kind-hash-requires Inv-loop μ-loop
-kind-hash-requires c κs = search needs
-
 loop-holds : tie.Need-loop-holds Inv-loop μ-loop
 loop-holds c = taken-none
 
-shared-slice-read-wide : tie.Need-shared-slice-read-wide Inv-loop μ-loop
-shared-slice-read-wide c = search needs
-
-wide-requires : tie.Need-wide-requires Inv-loop μ-loop
-wide-requires c κs = search needs
-
-cast-add-word : tie.Need-cast-add-word Inv-loop μ-loop
-cast-add-word c = search needs
-
-add-word-requires : tie.Need-add-word-requires Inv-loop μ-loop
-add-word-requires c κs = search needs
-
-add-i : tie.Need-add-i Inv-loop μ-loop
-add-i c = search needs
-
-loop-less : tie.Need-loop-less Inv-loop μ-loop
-loop-less c = search needs
-
 loop-again : tie.Need-loop-again Inv-loop μ-loop
 loop-again c = taken-more (c .before .before .before .before .loop .inv) (c .before .before .before .loop-test .taken) (c .add-word .ensures ∙ ap (addWord _) (c .before .wide .ensures .0))
-
-add-word-requires-2 : tie.Need-add-word-requires-2 Inv-loop μ-loop
-add-word-requires-2 c κs = search needs
 
 returns : tie.Need-returns Inv-loop μ-loop
 unfolding tokenHash
@@ -54,14 +30,14 @@ token-hash-spec =
     (tie.spec
     Inv-loop
     μ-loop
-    kind-hash-requires
+    (λ c κs. search needs)
     loop-holds
-    shared-slice-read-wide
-    wide-requires
-    cast-add-word
-    add-word-requires
-    add-i
-    loop-less
+    (λ c. search needs)
+    (λ c κs. search needs)
+    (λ c. search needs)
+    (λ c κs. search needs)
+    (λ c. search needs)
+    (λ c. search needs)
     loop-again
-    add-word-requires-2
+    (λ c κs. search needs)
     returns)

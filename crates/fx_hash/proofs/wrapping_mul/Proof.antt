@@ -12,17 +12,8 @@ mul-wrapping-add-u64 c = record { fits = below (omega arith) (omega arith) }
 mul-wrapping-add-u64-2 : tie.Need-mul-wrapping-add-u64-2
 mul-wrapping-add-u64-2 c = record { fits = below (omega arith) (omega arith) }
 
-wrapping-add-u64-requires : tie.Need-wrapping-add-u64-requires
-wrapping-add-u64-requires c κs = search needs
-
 mul-wrapping-add-u64-3 : tie.Need-mul-wrapping-add-u64-3
 mul-wrapping-add-u64-3 c = record { fits = below (omega arith) (omega arith) }
-
-mul-wrapping-add-u64-4 : tie.Need-mul-wrapping-add-u64-4
-mul-wrapping-add-u64-4 c = search needs
-
-wrapping-add-u64-requires-2 : tie.Need-wrapping-add-u64-requires-2
-wrapping-add-u64-requires-2 c κs = search needs
 
 returns : tie.Need-returns
 returns c =
@@ -34,8 +25,8 @@ wrapping-mul-spec =
     (tie.spec
     mul-wrapping-add-u64
     mul-wrapping-add-u64-2
-    wrapping-add-u64-requires
+    (λ c κs. search needs)
     mul-wrapping-add-u64-3
-    mul-wrapping-add-u64-4
-    wrapping-add-u64-requires-2
+    (λ c. search needs)
+    (λ c κs. search needs)
     returns)

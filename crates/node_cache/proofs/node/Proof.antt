@@ -12,29 +12,8 @@ use Rattle.node_cache.proofs.node.Tie as tie
 hash-node-requires : tie.Need-hash-node-requires
 hash-node-requires c κs = (c .before .before .before .before .before .before .before .pre .0, events-below _ _ (c .before .before .before .before .before .before .before .pre .1))
 
-find-node-requires : tie.Need-find-node-requires
-find-node-requires c κs = search needs
-
-enum-known-found : tie.Need-enum-known-found
-enum-known-found c = search needs
-
-same-length : tie.Need-same-length
-same-length c = search needs
-
-same-length-2 : tie.Need-same-length-2
-same-length-2 c = search needs
-
 returns : tie.Need-returns
 returns c = event-found (c .before .before .before .before .before .before .before .before .before .before .before .before .before .before .before .pre .0) (nodeEntry true _ (c .before .before .before .before .before .before .before .before .before .before .before .before .before .before .before .args .kind .0) (c .before .before .before .before .before .before .before .before .before .before .before .before .before .before .before .args .numbers .now)) _ (c .before .before .before .find-node .ensures) (c .before .found .given .1)
-
-enum-told : tie.Need-enum-told
-enum-told c = search needs
-
-same-length-3 : tie.Need-same-length-3
-same-length-3 c = search needs
-
-same-length-4 : tie.Need-same-length-4
-same-length-4 c = search needs
 
 returns-2 : tie.Need-returns-2
 returns-2 c = node-many (c .before .before .before .before .before .before .before .before .before .before .before .before .before .before .before .pre .0) _ _ _ (c .before .before .before .find-node .ensures) (c .before .enum-told .given .1) (c .if1 .taken)
@@ -42,41 +21,17 @@ returns-2 c = node-many (c .before .before .before .before .before .before .befo
 sum-children-requires : tie.Need-sum-children-requires
 sum-children-requires c κs = (c .before .before .before .before .before .before .before .before .before .before .before .before .before .before .before .before .before .before .pre .0, (events-below _ _ (c .before .before .before .before .before .before .before .before .before .before .before .before .before .before .before .before .before .before .pre .1), omega (arith, (c .before .before .before .if1 .left))))
 
-is-within-requires : tie.Need-is-within-requires
-is-within-requires c κs = search needs
-
-same-length-5 : tie.Need-same-length-5
-same-length-5 c = search needs
-
-same-length-6 : tie.Need-same-length-6
-same-length-6 c = search needs
-
 returns-3 : tie.Need-returns-3
 returns-3 c = node-large (c .before .before .before .before .before .before .before .before .before .before .before .before .before .before .before .before .before .before .before .before .before .pre .0) _ _ _ (c .before .before .before .before .before .before .before .before .before .find-node .ensures) (c .before .before .before .before .before .before .before .enum-told .given .1) (omega (arith, (c .before .before .before .before .before .before .if1 .left))) (c .before .before .sum-children .ensures) (c .before .is-within .ensures) (c .if2 .taken)
 
 has-event-room-requires : tie.Need-has-event-room-requires
 has-event-room-requires c κs = (c .before .before .before .before .before .before .before .before .before .before .before .before .before .before .before .before .before .before .before .before .before .before .before .before .pre .0, omega (arith, (c .before .before .before .before .before .before .before .before .before .if1 .left)), omega arith)
 
-same-length-7 : tie.Need-same-length-7
-same-length-7 c = search needs
-
-same-length-8 : tie.Need-same-length-8
-same-length-8 c = search needs
-
 returns-4 : tie.Need-returns-4
 returns-4 c = node-full (c .before .before .before .before .before .before .before .before .before .before .before .before .before .before .before .before .before .before .before .before .before .before .before .before .before .before .pre .0) _ _ _ (c .before .before .before .before .before .before .before .before .before .before .before .before .before .before .find-node .ensures) (c .before .before .before .before .before .before .before .before .before .before .before .before .enum-told .given .1) (omega (arith, (c .before .before .before .before .before .before .before .before .before .before .before .if1 .left))) (c .before .before .before .before .before .before .before .sum-children .ensures) (c .before .before .before .before .before .before .is-within .ensures) (c .before .before .before .before .before .if2 .left) (c .before .has-event-room .ensures) (c .if3 .taken)
 
-element-copy-out-n : tie.Need-element-copy-out-n
-element-copy-out-n c = search needs
-
 push-node-requires : tie.Need-push-node-requires
 push-node-requires c κs = node-ready (c .before .before .before .before .before .before .before .before .before .before .before .before .before .before .before .before .before .before .before .before .before .before .before .before .before .before .before .before .before .before .pre .0) _ _ _ (c .before .before .before .before .before .before .before .before .before .before .before .before .before .before .before .before .before .before .find-node .ensures) (c .before .before .before .before .before .before .before .before .before .before .before .before .before .before .before .before .enum-told .given .1) (omega (arith, (c .before .before .before .before .before .before .before .before .before .before .before .before .before .before .before .if1 .left))) (c .before .before .before .before .before .before .before .before .before .before .before .sum-children .ensures) (c .before .before .before .before .before .before .before .before .before .before .is-within .ensures) (c .before .before .before .before .before .before .before .before .before .if2 .left) (c .before .before .before .before .before .has-event-room .ensures) (c .before .before .before .before .if3 .left) (c .before .before .before .before .before .before .before .before .before .before .before .before .before .before .before .before .before .before .before .before .before .before .before .before .before .before .before .before .before .before .pre .1) (c .before .before .before .before .before .before .before .before .before .before .before .before .before .before .before .before .before .before .before .before .before .before .hash-node .ensures)
-
-same-length-9 : tie.Need-same-length-9
-same-length-9 c = search needs
-
-same-length-10 : tie.Need-same-length-10
-same-length-10 c = search needs
 
 returns-5 : tie.Need-returns-5
 returns-5 c = node-made (c .before .before .before .before .before .before .before .before .before .before .before .before .before .before .before .before .before .before .before .before .before .before .before .before .before .before .before .before .before .before .before .before .before .before .before .pre .0) _ _ _ (c .before .before .before .before .before .before .before .before .before .before .before .before .before .before .before .before .before .before .before .before .before .before .before .find-node .ensures) (c .before .before .before .before .before .before .before .before .before .before .before .before .before .before .before .before .before .before .before .before .before .enum-told .given .1) (omega (arith, (c .before .before .before .before .before .before .before .before .before .before .before .before .before .before .before .before .before .before .before .before .if1 .left))) (c .before .before .before .before .before .before .before .before .before .before .before .before .before .before .before .before .sum-children .ensures) (c .before .before .before .before .before .before .before .before .before .before .before .before .before .before .before .is-within .ensures) (c .before .before .before .before .before .before .before .before .before .before .before .before .before .before .if2 .left) (c .before .before .before .before .before .before .before .before .before .before .has-event-room .ensures) (c .before .before .before .before .before .before .before .before .before .if3 .left) (c .before .before .before .before .push-node .ensures)
@@ -86,26 +41,26 @@ node-spec =
     tie.close
     (tie.spec
     hash-node-requires
-    find-node-requires
-    enum-known-found
-    same-length
-    same-length-2
+    (λ c κs. search needs)
+    (λ c. search needs)
+    (λ c. search needs)
+    (λ c. search needs)
     returns
-    enum-told
-    same-length-3
-    same-length-4
+    (λ c. search needs)
+    (λ c. search needs)
+    (λ c. search needs)
     returns-2
     sum-children-requires
-    is-within-requires
-    same-length-5
-    same-length-6
+    (λ c κs. search needs)
+    (λ c. search needs)
+    (λ c. search needs)
     returns-3
     has-event-room-requires
-    same-length-7
-    same-length-8
+    (λ c. search needs)
+    (λ c. search needs)
     returns-4
-    element-copy-out-n
+    (λ c. search needs)
     push-node-requires
-    same-length-9
-    same-length-10
+    (λ c. search needs)
+    (λ c. search needs)
     returns-5)

@@ -4,15 +4,6 @@ use borrow.Author.Needs.{needs}
 use Rattle.preorder_lent.proofs.begin.Statement.{statement}
 use Rattle.preorder_lent.proofs.begin.Tie as tie
 
-begin-requires : tie.Need-begin-requires
-begin-requires c κs = search needs
-
-enum-known-moved : tie.Need-enum-known-moved
-enum-known-moved c = search needs
-
-enum-known-moved-2 : tie.Need-enum-known-moved-2
-enum-known-moved-2 c = search needs
-
 returns : tie.Need-returns
 returns c = begun (c .before .before .before .before .begin .ensures) _ (c .before .moved .given .1)
 
@@ -21,4 +12,4 @@ returns-2 c = not-begun (c .before .before .before .before .begin .ensures) _ (c
 
 pub begin-spec : {M : Type 1} → statement M
 begin-spec =
-    tie.close (tie.spec begin-requires enum-known-moved enum-known-moved-2 returns returns-2)
+    tie.close (tie.spec (λ c κs. search needs) (λ c. search needs) (λ c. search needs) returns returns-2)

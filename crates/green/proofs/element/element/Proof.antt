@@ -6,9 +6,6 @@ use Rattle.green.proofs.Answering.{no-element, an-element}
 use Rattle.green.proofs.element.element.Statement.{statement}
 use Rattle.green.proofs.element.element.Tie as tie
 
-element-copy-out-if1 : tie.Need-element-copy-out-if1
-element-copy-out-if1 c = search needs
-
 returns : tie.Need-returns
 returns c = no-element _ (c .before .before .before .before .before .pre) (c .before .before .before .before .before .args .n) (c .if1 .taken)
 
@@ -23,4 +20,4 @@ returns-3 c = an-element _ (c .before .before .before .before .before .before .b
 
 pub element-spec : {M : Type 1} → statement M
 element-spec =
-    tie.close (tie.spec element-copy-out-if1 returns is-node-requires returns-2 returns-3)
+    tie.close (tie.spec (λ c. search needs) returns is-node-requires returns-2 returns-3)

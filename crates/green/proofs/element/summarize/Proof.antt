@@ -5,9 +5,6 @@ use Rattle.green.proofs.Answering.{no-summary, node-children, token-chi
 use Rattle.green.proofs.element.summarize.Statement.{statement}
 use Rattle.green.proofs.element.summarize.Tie as tie
 
-element-copy-out-if1 : tie.Need-element-copy-out-if1
-element-copy-out-if1 c = search needs
-
 returns : tie.Need-returns
 returns c = no-summary _ (c .before .before .before .before .before .pre) _ (c .if1 .taken)
 
@@ -48,7 +45,7 @@ pub summarize-spec : {M : Type 1} → statement M
 summarize-spec =
     tie.close
     (tie.spec
-    element-copy-out-if1
+    (λ c. search needs)
     returns
     is-node-requires
     count-of-requires

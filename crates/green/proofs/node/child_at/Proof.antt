@@ -4,23 +4,8 @@ use Rattle.green.proofs.Answering.{no-child, token-no-child, node-known
 use Rattle.green.proofs.node.child_at.Statement.{statement}
 use Rattle.green.proofs.node.child_at.Tie as tie
 
-element-requires : tie.Need-element-requires
-element-requires c κs = search needs
-
-enum-known-what : tie.Need-enum-known-what
-enum-known-what c = search needs
-
-enum-told : tie.Need-enum-told
-enum-told c = search needs
-
 returns : tie.Need-returns
 returns c = no-child (c .before .before .before .before .before .before .pre) _ (c .before .before .element .ensures) _ (c .enum-told .given .1)
-
-enum-known-what-2 : tie.Need-enum-known-what-2
-enum-known-what-2 c = search needs
-
-enum-told-2 : tie.Need-enum-told-2
-enum-told-2 c = search needs
 
 returns-2 : tie.Need-returns-2
 returns-2 c = token-no-child (c .before .before .before .before .before .before .before .before .before .pre) _ (c .before .before .before .before .before .element .ensures) (c .before .before .before .what .given .1) _ (c .enum-told2 .given .1)
@@ -42,12 +27,12 @@ pub child-at-spec : {M : Type 1} → statement M
 child-at-spec =
     tie.close
     (tie.spec
-    element-requires
-    enum-known-what
-    enum-told
+    (λ c κs. search needs)
+    (λ c. search needs)
+    (λ c. search needs)
     returns
-    enum-known-what-2
-    enum-told-2
+    (λ c. search needs)
+    (λ c. search needs)
     returns-2
     count-of-requires
     returns-3

@@ -5,9 +5,6 @@ use Rattle.green.proofs.Answering.{child-bound, child-place}
 use Rattle.green.proofs.node.nth_child.Statement.{statement}
 use Rattle.green.proofs.node.nth_child.Tie as tie
 
-first-of-requires : tie.Need-first-of-requires
-first-of-requires c κs = search needs
-
 add-word : tie.Need-add-word
 add-word c = omega (arith, child-bound _ (c .before .before .before .before .args .n) (c .before .before .before .before .pre .0 .0) (c .before .before .before .before .args .k) (c .before .before .before .before .pre .0 .1) (c .before .before .before .before .pre .1), c .first-of .ensures)
 
@@ -22,4 +19,4 @@ returns c = child-place _ (c .before .before .before .before .before .args .n) (
 
 pub nth-child-spec : {M : Type 1} → statement M
 nth-child-spec =
-    tie.close (tie.spec first-of-requires add-word mul-word shared-slice-read-word returns)
+    tie.close (tie.spec (λ c κs. search needs) add-word mul-word shared-slice-read-word returns)

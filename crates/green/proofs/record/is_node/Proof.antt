@@ -6,11 +6,8 @@ use Rattle.green.proofs.Known.{tag-node}
 use Rattle.green.proofs.record.is_node.Statement.{statement}
 use Rattle.green.proofs.record.is_node.Tie as tie
 
-tag-of-requires : tie.Need-tag-of-requires
-tag-of-requires c κs = search needs
-
 returns : tie.Need-returns
 returns c = rw (c .tag-of .ensures) (tag-node (entryAt (entries (here (c .before .before .before .before .args .records) (c .before .before .before .before .args .children) (c .before .before .before .before .args .text) (c .before .before .before .before .args .used))) (c .before .before .before .before .args .n)))
 
 pub is-node-spec : {M : Type 1} → statement M
-is-node-spec = tie.close (tie.spec tag-of-requires returns)
+is-node-spec = tie.close (tie.spec (λ c κs. search needs) returns)

@@ -4,14 +4,8 @@ use Rattle.green.proofs.Known.{head-kind}
 use Rattle.green.proofs.record.kind_of.Statement.{statement}
 use Rattle.green.proofs.record.kind_of.Tie as tie
 
-word-requires : tie.Need-word-requires
-word-requires c κs = search needs
-
-cast-t8 : tie.Need-cast-t8
-cast-t8 c = search needs
-
 returns : tie.Need-returns
 returns c = head-kind _ (c .before .before .before .before .args .n) (c .before .before .before .before .pre) (c .word .result) (c .word .ensures)
 
 pub kind-of-spec : {M : Type 1} → statement M
-kind-of-spec = tie.close (tie.spec word-requires cast-t8 returns)
+kind-of-spec = tie.close (tie.spec (λ c κs. search needs) (λ c. search needs) returns)

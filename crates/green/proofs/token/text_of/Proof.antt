@@ -5,20 +5,8 @@ use Rattle.green.proofs.Answering.{token-bound, token-part}
 use Rattle.green.proofs.token.text_of.Statement.{statement}
 use Rattle.green.proofs.token.text_of.Tie as tie
 
-first-of-requires : tie.Need-first-of-requires
-first-of-requires c κs = search needs
-
-count-of-requires : tie.Need-count-of-requires
-count-of-requires c κs = search needs
-
 add-result : tie.Need-add-result
 add-result c = omega (arith, token-bound _ (c .before .before .before .before .before .args .n) (c .before .before .before .before .before .pre .0) (c .before .before .before .before .before .pre .1), c .before .first-of .ensures, c .count-of .ensures)
-
-sub-result : tie.Need-sub-result
-sub-result c = search needs
-
-part-result-start : tie.Need-part-result-start
-part-result-start c = search needs
 
 part-result-end : tie.Need-part-result-end
 part-result-end c = omega (arith, token-bound _ (c .before .before .before .before .before .args .n) (c .before .before .before .before .before .pre .0) (c .before .before .before .before .before .pre .1), c .before .first-of .ensures, c .count-of .ensures)
@@ -29,4 +17,4 @@ returns c = token-part _ (c .before .before .before .before .before .before .arg
 pub text-of-spec : {M : Type 1} → statement M
 text-of-spec =
     tie.close
-    (tie.spec first-of-requires count-of-requires add-result sub-result part-result-start part-result-end returns)
+    (tie.spec (λ c κs. search needs) (λ c κs. search needs) add-result (λ c. search needs) (λ c. search needs) part-result-end returns)

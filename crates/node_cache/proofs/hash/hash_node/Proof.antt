@@ -28,9 +28,6 @@ mul-widen c = omega arith
 shared-slice-read-widen : tie.Need-shared-slice-read-widen Inv-loop μ-loop
 shared-slice-read-widen c = omega arith
 
-widen-requires : tie.Need-widen-requires Inv-loop μ-loop
-widen-requires c κs = search needs
-
 hash-of-requires : tie.Need-hash-of-requires Inv-loop μ-loop
 hash-of-requires c κs = child-known _ (c .before .before .before .before .before .before .before .before .before .pre .0) (c .before .before .before .before .before .before .before .before .before .pre .1) (c .before .before .loop-test .taken) (c .widen .ensures .0)
 
@@ -71,7 +68,7 @@ hash-node-spec =
     loop-holds
     mul-widen
     shared-slice-read-widen
-    widen-requires
+    (λ c κs. search needs)
     hash-of-requires
     mul-hashes
     array-write-hashes

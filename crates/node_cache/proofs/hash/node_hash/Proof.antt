@@ -13,35 +13,11 @@ Inv-loop hashes h₀ i₀ h i = Taken hashes h₀ h i × SharableSoFar hashes i
 abbrev μ-loop : tie.MeasureT-loop
 μ-loop hashes h₀ i₀ h i = length hashes - i
 
-kind-hash-requires : tie.Need-kind-hash-requires Inv-loop μ-loop
-kind-hash-requires c κs = search needs
-
 loop-holds : tie.Need-loop-holds Inv-loop μ-loop
 loop-holds c = (taken-none, sharable-so-far _ (c .before .before .pre))
 
-mul-if1 : tie.Need-mul-if1 Inv-loop μ-loop
-mul-if1 c = search needs
-
-shared-slice-read-if1 : tie.Need-shared-slice-read-if1 Inv-loop μ-loop
-shared-slice-read-if1 c = search needs
-
 returns : tie.Need-returns Inv-loop μ-loop
 returns c = let z = zero-unsharable (c .before .before .before .loop .inv .1) (c .before .before .loop-test .taken) (c .if1 .taken) in (z, unsharable-hash _ _ z)
-
-mul-add-word : tie.Need-mul-add-word Inv-loop μ-loop
-mul-add-word c = search needs
-
-shared-slice-read-add-word : tie.Need-shared-slice-read-add-word Inv-loop μ-loop
-shared-slice-read-add-word c = search needs
-
-add-word-requires : tie.Need-add-word-requires Inv-loop μ-loop
-add-word-requires c κs = search needs
-
-add-i : tie.Need-add-i Inv-loop μ-loop
-add-i c = search needs
-
-loop-less : tie.Need-loop-less Inv-loop μ-loop
-loop-less c = search needs
 
 loop-again : tie.Need-loop-again Inv-loop μ-loop
 loop-again c = (taken-more (c .before .before .before .before .before .loop .inv .0) (c .before .before .before .before .loop-test .taken) (c .add-word .ensures), sharable-more (c .before .before .before .before .before .loop .inv .1) (c .before .before .before .before .loop-test .taken) (c .before .before .if1 .left))
@@ -55,15 +31,15 @@ node-hash-spec =
     (tie.spec
     Inv-loop
     μ-loop
-    kind-hash-requires
+    (λ c κs. search needs)
     loop-holds
-    mul-if1
-    shared-slice-read-if1
+    (λ c. search needs)
+    (λ c. search needs)
     returns
-    mul-add-word
-    shared-slice-read-add-word
-    add-word-requires
-    add-i
-    loop-less
+    (λ c. search needs)
+    (λ c. search needs)
+    (λ c κs. search needs)
+    (λ c. search needs)
+    (λ c. search needs)
     loop-again
     returns-2)

@@ -21,9 +21,6 @@ abbrev μ-loop : tie.MeasureT-loop
 returns : tie.Need-returns Inv-loop μ-loop
 returns c = unshared (c .before .before .before .before .before .before .pre .1) (c .if1 .taken)
 
-element-copy-out-n : tie.Need-element-copy-out-n Inv-loop μ-loop
-element-copy-out-n c = search needs
-
 loop-holds : tie.Need-loop-holds Inv-loop μ-loop
 loop-holds c = sought-start
 
@@ -35,9 +32,6 @@ returns-2 c = sought-hit (c .before .before .before .loop .inv) (known _ (c .bef
 
 add-i : tie.Need-add-i Inv-loop μ-loop
 add-i c = omega (arith, number-bound _ _ (known _ (c .before .before .before .before .before .before .before .before .before .before .before .pre .0 .0) _ (c .before .before .loop-test .taken)))
-
-loop-less : tie.Need-loop-less Inv-loop μ-loop
-loop-less c = search needs
 
 loop-again : tie.Need-loop-again Inv-loop μ-loop
 loop-again c = sought-next (c .before .before .before .loop .inv) (known _ (c .before .before .before .before .before .before .before .before .before .before .before .pre .0 .0) _ (c .before .before .loop-test .taken) .within) _ (c .before .is-node .ensures) (c .if2 .left)
@@ -52,11 +46,11 @@ find-node-spec =
     Inv-loop
     μ-loop
     returns
-    element-copy-out-n
+    (λ c. search needs)
     loop-holds
     is-node-requires
     returns-2
     add-i
-    loop-less
+    (λ c. search needs)
     loop-again
     returns-3)

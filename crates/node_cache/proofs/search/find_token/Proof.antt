@@ -17,9 +17,6 @@ Inv-loop records children text used kind src hash n i₀ i = Sought (token (kind
 abbrev μ-loop : tie.MeasureT-loop
 μ-loop records children text used kind src hash n i₀ i = n - i
 
-element-copy-out-n : tie.Need-element-copy-out-n Inv-loop μ-loop
-element-copy-out-n c = search needs
-
 loop-holds : tie.Need-loop-holds Inv-loop μ-loop
 loop-holds c = sought-start
 
@@ -31,9 +28,6 @@ returns c = sought-hit (c .before .before .before .loop .inv) (known _ (c .befor
 
 add-i : tie.Need-add-i Inv-loop μ-loop
 add-i c = omega (arith, number-bound _ _ (known _ (c .before .before .before .before .before .before .before .before .before .pre .0) _ (c .before .before .loop-test .taken)))
-
-loop-less : tie.Need-loop-less Inv-loop μ-loop
-loop-less c = search needs
 
 loop-again : tie.Need-loop-again Inv-loop μ-loop
 loop-again c = sought-next (c .before .before .before .loop .inv) (known _ (c .before .before .before .before .before .before .before .before .before .pre .0) _ (c .before .before .loop-test .taken) .within) _ (c .before .is-token .ensures) (c .if1 .left)
@@ -47,11 +41,11 @@ find-token-spec =
     (tie.spec
     Inv-loop
     μ-loop
-    element-copy-out-n
+    (λ c. search needs)
     loop-holds
     is-token-requires
     returns
     add-i
-    loop-less
+    (λ c. search needs)
     loop-again
     returns-2)

@@ -26,9 +26,6 @@ returns-3 c = other-kind (c .before .before .before .before .before .before .bef
 text-of-requires : tie.Need-text-of-requires
 text-of-requires c κs = (c .before .before .before .before .before .before .before .before .before .before .before .before .pre .0, sym (c .before .before .before .before .before .is-node .ensures) ∙ c .before .before .before .before .if2 .left)
 
-same-bytes-requires : tie.Need-same-bytes-requires
-same-bytes-requires c κs = search needs
-
 returns-4 : tie.Need-returns-4
 returns-4 c = by-bytes (c .before .before .before .before .before .before .before .before .before .before .before .before .before .before .pre .0) (c .before .before .before .before .before .before .before .before .before .before .before .before .before .before .args .kind .0) (c .before .before .before .before .before .before .before .before .before .before .before .before .before .before .args .src .now) (sym (c .before .before .before .before .before .before .before .is-node .ensures) ∙ c .before .before .before .before .before .before .if2 .left) (c .before .before .before .before .before .kind-of .ensures) (c .before .before .if3 .left) (c .before .text-of .ensures) (c .same-bytes .ensures)
 
@@ -43,5 +40,5 @@ is-token-spec =
     kind-of-requires
     returns-3
     text-of-requires
-    same-bytes-requires
+    (λ c κs. search needs)
     returns-4)

@@ -35,9 +35,6 @@ mul-widen c = omega arith
 shared-slice-read-widen : tie.Need-shared-slice-read-widen Inv-loop μ-loop
 shared-slice-read-widen c = omega arith
 
-widen-requires : tie.Need-widen-requires Inv-loop μ-loop
-widen-requires c κs = search needs
-
 returns-2 : tie.Need-returns-2 Inv-loop μ-loop
 returns-2 c = child-differs (c .before .before .before .before .before .before .loop .inv) (c .before .before .before .before .before .loop-test .taken) (ap (λ x. x .number) (c .before .before .before .before .nth-child .ensures .0)) (c .before .before .widen .ensures .0) (c .if2 .taken)
 
@@ -65,7 +62,7 @@ same-children-spec =
     nth-child-requires
     mul-widen
     shared-slice-read-widen
-    widen-requires
+    (λ c κs. search needs)
     returns-2
     add-k
     loop-less
