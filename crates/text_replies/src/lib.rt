@@ -1,9 +1,10 @@
 // What `replay` answers to the texts of a script: calls 50 to 58. A text stays in its slot from call to call. Here texts and
-// slices are put into slots; `slot` has how they are kept there, `ask` the questions about them, `chunk` their chunks.
+// slices are put into slots; the questions about them and their chunks have crates of their own.
 
 ghost use Prim.Native.Nat.{_<_};
 ghost use Rattle.green.specs.Store.{here};
 ghost use Rattle.green.specs.Valid.{Valid};
+use chunk_replies::slot;
 use files::out;
 use green::Counts;
 use query::question::Question;
@@ -13,10 +14,6 @@ use replies::slots;
 use script::call::Call;
 use script::path;
 use script::words;
-
-pub mod ask;
-pub mod chunk;
-pub mod slot;
 
 // Puts a text into a slot, or empties it if there is none; prints which. No other reply comes. The text's path is in the
 // slot already.
@@ -216,7 +213,7 @@ pub fn answer(
             slot,
             left,
         ),
-        53 | 54 => chunk::answer(
+        53 | 54 => chunk_replies::answer(
             call,
             out,
             end,
@@ -229,7 +226,7 @@ pub fn answer(
             slot,
             left,
         ),
-        _ => ask::answer(
+        _ => text_query_replies::answer(
             call,
             out,
             end,

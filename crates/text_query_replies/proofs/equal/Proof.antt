@@ -1,8 +1,8 @@
 -- `equal` is safe. Assumes nothing.
 use native.Mathlib.Omega.{arith}
 use borrow.Author.Needs.{needs}
-use Rattle.text_replies.proofs.ask.equal.Statement.{statement}
-use Rattle.text_replies.proofs.ask.equal.Tie as tie
+use Rattle.text_query_replies.proofs.equal.Statement.{statement}
+use Rattle.text_query_replies.proofs.equal.Tie as tie
 
 compare-requires : tie.Need-compare-requires
 compare-requires c κs = (c .before .before .before .before .before .before .before .before .before .before .before .before .before .before .before .before .before .before .pre .0, (c .before .before .before .before .before .before .before .before .before .before .before .before .before .before .before .before .before .before .pre .1), omega (arith, (c .before .before .before .before .before .before .before .before .before .before .before .before .before .take-below .ensures)))

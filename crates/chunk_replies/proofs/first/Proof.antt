@@ -1,18 +1,17 @@
--- `further` is safe. Assumes nothing.
+-- `first` is safe. Assumes nothing.
 use native.Mathlib.Omega.{arith}
 use borrow.Author.Needs.{needs}
-use Rattle.text_replies.proofs.chunk.further.Statement.{statement}
-use Rattle.text_replies.proofs.chunk.further.Tie as tie
+use Rattle.chunk_replies.proofs.first.Statement.{statement}
+use Rattle.chunk_replies.proofs.first.Tie as tie
 
 next-chunk-requires : tie.Need-next-chunk-requires
 next-chunk-requires c κs = (c .before .before .before .before .before .before .before .before .pre, λ n e. absurd (omega arith))
 
-pub further-spec : {M : Type 1} → statement M
-further-spec =
+pub first-spec : {M : Type 1} → statement M
+first-spec =
     tie.close
     (tie.spec
     next-chunk-requires
-    (λ c κs. search needs)
     (λ c κs. search needs)
     (λ c. search needs)
     (λ c. search needs))

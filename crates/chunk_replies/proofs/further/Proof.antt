@@ -1,17 +1,18 @@
--- `first` is safe. Assumes nothing.
+-- `further` is safe. Assumes nothing.
 use native.Mathlib.Omega.{arith}
 use borrow.Author.Needs.{needs}
-use Rattle.text_replies.proofs.chunk.first.Statement.{statement}
-use Rattle.text_replies.proofs.chunk.first.Tie as tie
+use Rattle.chunk_replies.proofs.further.Statement.{statement}
+use Rattle.chunk_replies.proofs.further.Tie as tie
 
 next-chunk-requires : tie.Need-next-chunk-requires
 next-chunk-requires c κs = (c .before .before .before .before .before .before .before .before .pre, λ n e. absurd (omega arith))
 
-pub first-spec : {M : Type 1} → statement M
-first-spec =
+pub further-spec : {M : Type 1} → statement M
+further-spec =
     tie.close
     (tie.spec
     next-chunk-requires
+    (λ c κs. search needs)
     (λ c κs. search needs)
     (λ c. search needs)
     (λ c. search needs))

@@ -1,9 +1,8 @@
-// The chunks of a text in a slot: calls 53 and 54.
+// What `replay` answers to the chunks of a script: calls 53 and 54. `slot` has how a text is kept from call to call.
 
 ghost use Prim.Native.Nat.{_<_};
 ghost use Rattle.green.specs.Store.{here};
 ghost use Rattle.green.specs.Valid.{Valid};
-use crate::slot;
 use crate::slot::Text;
 use files::out;
 use green::Counts;
@@ -13,6 +12,8 @@ use replies::slots;
 use script::call::Call;
 use script::words;
 use syntax_text_chunks::chunks;
+
+pub mod slot;
 
 // A chunk's bytes, or by its outcome why there is none: 1 says the end, any other number is a refusal's.
 fn put_chunk(out: &mut [u8], end: &mut usize, outcome: usize, chunk: &[u8]) {

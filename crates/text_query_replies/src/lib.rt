@@ -1,10 +1,10 @@
-// What is asked of a text in a slot: calls 52 and 55 to 58.
+// What `replay` answers to the questions about a text in a slot: calls 52 and 55 to 58.
 
 ghost use Prim.Native.Nat.{_^_, _<_};
 ghost use Rattle.green.specs.Store.{here};
 ghost use Rattle.green.specs.Valid.{Valid};
-use crate::slot;
-use crate::slot::Text;
+use chunk_replies::slot;
+use chunk_replies::slot::Text;
 use files::out;
 use green::Counts;
 use query::question::Question;
