@@ -38,7 +38,7 @@ fn replay(fd: i32) {
     let mut records = [0u64; 65600];
     let mut children = [0u64; 16400];
     let mut text = [0u8; 65600];
-    let mut space = [0u8; 65536];
+    let mut space = [0u8; 8192];
     let out: &mut [u8] = &mut space;
     let mut end: usize = 0;
     stores(fd, out, &mut end, &mut records, &mut children, &mut text);
