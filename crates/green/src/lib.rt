@@ -1,4 +1,5 @@
 // rowan's green tree over lent places: records of elements, child places and text bytes, and how many of each are in use.
+// `element` and `node` take any number; `record` has the words, and `token` the bytes, of one that is known.
 // specs/ says which entries they spell (Store) and when they are in order (Valid).
 
 pub mod element;

@@ -1,4 +1,4 @@
-// For the crates above: a record's words, head (kind + 2^16 * tag), first, count, length, size, height, hash, and one to spare.
+// For the crates above: a record's eight words, in the order that specs/Layout has.
 // They are written by one function, and each is read by one of its own, so that no other module knows their places.
 
 ghost use mathlib.Core.Path.{_≡_};

@@ -1,5 +1,5 @@
 // rowan's utility_types.rs, and the types of the answers that every crate above shares.
-// specs/ says of each what document 01 means by it.
+// `number` has numbers of other widths. specs/ says of each what document 01 means by it.
 
 ghost use mathlib.Core.Path.{_≡_};
 ghost use Rattle.utility_types.specs.Numbers.{refusalNumber};
