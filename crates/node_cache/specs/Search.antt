@@ -4,9 +4,11 @@ use mathlib.Core.Path.{_≡_}
 use mathlib.Core.List.{List}
 use mathlib.Core.Bool.{true}
 use mathlib.Core.Option.{Option, none, some}
-use Rattle.definitions.specs.Tree.{node}
+use lib.ListN.{drop}
+use Rattle.definitions.specs.Tree.{Tree, node}
 use Rattle.definitions.specs.Hash.{hash, sharable}
 use Rattle.definitions.specs.Entry.{Entry, treesAt}
+use Rattle.definitions.specs.NodeCache.{findFrom}
 use Rattle.green.specs.Valid.{AllEvents}
 use Rattle.node_cache.specs.declared.hash.Hashed.{Hashed}
 use Rattle.node_cache.specs.declared.search.Search.{Search}
@@ -26,3 +28,7 @@ pub record NodeSought (es : List Entry) (k : ℕ) (ns : List ℕ) (h : ℕ) : Ty
   pub sharable : sharable (node k (treesAt es ns)) ≡ true
   pub events : AllEvents es ns
   pub hash : h ≡ hash (node k (treesAt es ns))
+
+-- no entry between two numbers is spelled like an element of this hash: one that is sought from the first on may be sought from the second on
+pub record NoneBetween (es : List Entry) (h from to : ℕ) : Type 0 where
+  pub sought : (t : Tree) → h ≡ hash t → findFrom t (drop to es) to ≡ findFrom t (drop from es) from
