@@ -2,7 +2,6 @@
 // Equal hashes are not equal elements: they only save a comparison where they differ.
 
 ghost use mathlib.Core.Path.{_≡_};
-ghost use Prim.Native.Nat.{_≤_};
 ghost use mathlib.Core.Bool.{true};
 ghost use Rattle.definitions.specs.Tree.{token, node, isNode, sameNumbers};
 ghost use Rattle.definitions.specs.Hash.{tokenHash};
@@ -10,7 +9,7 @@ ghost use Rattle.definitions.specs.Entry.{entryAt, treeAt, treesAt};
 ghost use Rattle.definitions.specs.NodeCache.{matches, reuse};
 ghost use Rattle.green.specs.Store.{here, entered, entries};
 ghost use Rattle.green.specs.Valid.{AllEvents, Valid, Known};
-ghost use Rattle.node_cache.specs.Search.{found, HashOf, NodeSought, NoneBetween};
+ghost use Rattle.node_cache.specs.Search.{found, HashOf, NodeSought, FirstAlike};
 use crate::hash::Hashed;
 use green::Counts;
 use green::node;
@@ -40,7 +39,7 @@ fn same_bytes(a: &[u8], b: &[u8]) -> bool
     true
 }
 
-// The first record from `from` on that has this hash; the number of records, or more, if there is none. It is what a search spends its time in,
+// The first record from `from` on that has this hash; the number of records, or `from` if that is more, if there is none. It is what a search spends its time in,
 // and a loop of its own compiles to a load and a comparison a record.
 fn next_alike(
     records: &[u64],
@@ -51,7 +50,7 @@ fn next_alike(
     from: usize,
 ) -> usize
     requires { ⌜ Valid (here records children text used) ⌝ }
-    ensures { λ r. ⌜ (from ≤ r) × NoneBetween (entries (entered records children text used)) hash from r ⌝ }
+    ensures { λ r. ⌜ FirstAlike (entries (entered records children text used)) hash from r ⌝ }
 {
     let n = used[0];
     let mut i = from;

@@ -23,7 +23,7 @@ returns : tie.Need-returns Inv-loop μ-loop
 returns c = unshared (c .before .before .before .before .before .before .pre .1) (c .if1 .taken)
 
 loop-holds : tie.Need-loop-holds Inv-loop μ-loop
-loop-holds c = seek-on (c .next-alike .ensures .1) (c .before .before .before .before .before .before .before .before .pre .1 .hash) sought-start
+loop-holds c = seek-on (c .next-alike .ensures) (c .before .before .before .before .before .before .before .before .pre .1 .hash) sought-start
 
 is-node-requires : tie.Need-is-node-requires Inv-loop μ-loop
 is-node-requires c κs = (known _ (c .before .before .before .before .before .before .before .before .before .before .pre .0 .0) _ (c .loop-test .taken), node-sought (c .before .before .before .before .before .before .before .before .before .before .pre .1) (c .before .before .before .before .if1 .left) (c .before .before .before .before .before .before .before .before .before .before .pre .0 .1))
@@ -35,10 +35,10 @@ add-next-alike : tie.Need-add-next-alike Inv-loop μ-loop
 add-next-alike c = omega (arith, number-bound _ _ (known _ (c .before .before .before .before .before .before .before .before .before .before .before .before .pre .0 .0) _ (c .before .before .loop-test .taken)))
 
 loop-less : tie.Need-loop-less Inv-loop μ-loop
-loop-less c = omega (arith, (c .next-alike2 .ensures .0), (c .before .before .before .loop-test .taken))
+loop-less c = omega (arith, (c .next-alike2 .ensures .none .after), (c .before .before .before .loop-test .taken))
 
 loop-again : tie.Need-loop-again Inv-loop μ-loop
-loop-again c = seek-on (c .next-alike2 .ensures .1) (c .before .before .before .before .before .before .before .before .before .before .before .before .before .pre .1 .hash) (sought-next (c .before .before .before .before .loop .inv) (known _ (c .before .before .before .before .before .before .before .before .before .before .before .before .before .pre .0 .0) _ (c .before .before .before .loop-test .taken) .within) _ (c .before .before .is-node .ensures) (c .before .if2 .left))
+loop-again c = seek-on (c .next-alike2 .ensures) (c .before .before .before .before .before .before .before .before .before .before .before .before .before .pre .1 .hash) (sought-next (c .before .before .before .before .loop .inv) (known _ (c .before .before .before .before .before .before .before .before .before .before .before .before .before .pre .0 .0) _ (c .before .before .before .loop-test .taken) .within) _ (c .before .before .is-node .ensures) (c .before .if2 .left))
 
 returns-3 : tie.Need-returns-3 Inv-loop μ-loop
 returns-3 c = sought-end (c .before .loop .inv) (omega (arith, count-records _ (c .before .before .before .before .before .before .before .before .before .before .pre .0 .0), (c .loop-test .left))) ∙ node-reused (c .before .before .before .before .before .before .before .before .before .before .pre .1) (c .before .before .before .before .if1 .left)

@@ -19,7 +19,7 @@ abbrev μ-loop : tie.MeasureT-loop
 μ-loop records children text used kind src hash n i₀ i = n - i
 
 loop-holds : tie.Need-loop-holds Inv-loop μ-loop
-loop-holds c = seek-token (c .next-alike .ensures .1) (c .before .before .before .before .before .before .pre .1) sought-start
+loop-holds c = seek-token (c .next-alike .ensures) (c .before .before .before .before .before .before .pre .1) sought-start
 
 is-token-requires : tie.Need-is-token-requires Inv-loop μ-loop
 is-token-requires c κs = (known _ (c .before .before .before .before .before .before .before .before .pre .0) _ (c .loop-test .taken), (c .before .before .before .before .before .before .before .before .pre .1))
@@ -31,10 +31,10 @@ add-next-alike : tie.Need-add-next-alike Inv-loop μ-loop
 add-next-alike c = omega (arith, number-bound _ _ (known _ (c .before .before .before .before .before .before .before .before .before .before .pre .0) _ (c .before .before .loop-test .taken)))
 
 loop-less : tie.Need-loop-less Inv-loop μ-loop
-loop-less c = omega (arith, (c .next-alike2 .ensures .0), (c .before .before .before .loop-test .taken))
+loop-less c = omega (arith, (c .next-alike2 .ensures .none .after), (c .before .before .before .loop-test .taken))
 
 loop-again : tie.Need-loop-again Inv-loop μ-loop
-loop-again c = seek-token (c .next-alike2 .ensures .1) (c .before .before .before .before .before .before .before .before .before .before .before .pre .1) (sought-next (c .before .before .before .before .loop .inv) (known _ (c .before .before .before .before .before .before .before .before .before .before .before .pre .0) _ (c .before .before .before .loop-test .taken) .within) _ (c .before .before .is-token .ensures) (c .before .if1 .left))
+loop-again c = seek-token (c .next-alike2 .ensures) (c .before .before .before .before .before .before .before .before .before .before .before .pre .1) (sought-next (c .before .before .before .before .loop .inv) (known _ (c .before .before .before .before .before .before .before .before .before .before .before .pre .0) _ (c .before .before .before .loop-test .taken) .within) _ (c .before .before .is-token .ensures) (c .before .if1 .left))
 
 returns-2 : tie.Need-returns-2 Inv-loop μ-loop
 returns-2 c = sought-end (c .before .loop .inv) (omega (arith, count-records _ (c .before .before .before .before .before .before .before .before .pre .0), (c .loop-test .left))) ∙ token-reused _ _ _
