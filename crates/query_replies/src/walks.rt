@@ -54,7 +54,7 @@ fn step(
 }
 
 fn skip(out: &mut Buffer, slots: &mut Slots, slot: usize, it: Walk)
-    requires { ⌜ slot < 4 ⌝ }
+    requires { ⌜ (slot < 4) × (it .depth ≤ 64) ⌝ }
 {
     let coming = it.coming;
     let moved = walk::skip_subtree(coming, it.depth);
