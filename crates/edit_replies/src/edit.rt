@@ -1,6 +1,7 @@
 // Calls 10 to 14. A call's words are read first, and then it is put to the port.
 
 ghost use Prim.Native.Nat.{_≤_};
+ghost use lib.ListN.{length};
 ghost use Rattle.green.specs.Store.{here};
 ghost use Rattle.green.specs.Valid.{Valid};
 use files::out::Buffer;
@@ -37,9 +38,16 @@ fn no_edit() -> Edit
     }
 }
 
+// How many words one of them has.
+fn words_of(op: u32) -> usize
+    ensures { λ r. ⌜ r ≤ 3 ⌝ }
+{
+    if op == 12 { 2 } else { 3 }
+}
+
 // Calls 10 to 12: a node, an index among its children, and a new element unless one is taken out.
 fn read_child_edit(call: Call) -> Edit {
-    let count = if call.op == 12 { 2 } else { 3 };
+    let count = words_of(call.op);
     let mut of = [0u32; 3];
     let ok = words::has_words(call, call.m, count) && words::read_words(call, &mut of, count);
     Edit {
@@ -53,7 +61,8 @@ fn read_child_edit(call: Call) -> Edit {
 }
 
 // Call 13: a node, a range of its children, and then the new elements.
-fn read_splice(call: Call, new: &mut [u32; 4200]) -> Edit
+fn read_splice(call: Call, new: &mut [u32]) -> Edit
+    requires { ⌜ 4200 ≤ length (now new) ⌝ }
     ensures { λ r. ⌜ r .new ≤ 4200 ⌝ }
 {
     let mut of = [0u32; 3];
@@ -66,9 +75,11 @@ fn read_splice(call: Call, new: &mut [u32; 4200]) -> Edit
         call::complain(call, b"it has more than 4200 new numbers");
         return no_edit();
     }
-    let ok = words::read_words(call, &mut of, 3) && words::read_words(call, new, count);
+    if !words::read_words(call, &mut of, 3) {
+        return no_edit();
+    }
     Edit {
-        ok,
+        ok: words::read_words(call, new, count),
         of: number::widen(of[0]),
         depth: 0,
         start: number::widen(of[1]),
