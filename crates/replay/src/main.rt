@@ -1,14 +1,13 @@
 // The program `replay`: puts the calls of a script (docs/REPLAY.md) to the port, and prints the replies. Here the file and
-// the script's stores, in `store` the calls on one store, in `calls` which crate answers a call.
+// the script's stores, in `calls` the calls on one store.
 
 mod calls;
-mod store;
 
 use files::out;
 use files::out::Buffer;
 use libc::STDERR_FILENO;
 use script::call;
-use script::store as asked_store;
+use script::store;
 
 // The script's stores in turn.
 fn stores(
@@ -20,9 +19,9 @@ fn stores(
 ) {
     let mut ordinal: usize = 0;
     let mut left = call::MOST_WORDS;
-    let mut asked = asked_store::first_store();
+    let mut asked = store::first_store();
     loop {
-        let after = store::on_store(fd, out, records, children, text, asked, ordinal, left);
+        let after = calls::on_store(fd, out, records, children, text, asked, ordinal, left);
         if !after.more {
             return;
         }
