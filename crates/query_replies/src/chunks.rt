@@ -130,16 +130,7 @@ fn next(
     if it.given == 0 {
         return first(out, records, children, text, used, it, path);
     }
-    further(
-        out,
-        records,
-        children,
-        text,
-        used,
-        it,
-        path,
-        it.given - 1,
-    )
+    further(out, records, children, text, used, it, path, it.given - 1)
 }
 
 // The word is a slot. Whether the script goes on.

@@ -81,15 +81,7 @@ fn answer_all(
         if call.op == 1 {
             return next_store(call, out, left);
         }
-        if !call_replies::answer(
-            call,
-            out,
-            records,
-            children,
-            text,
-            &mut used,
-            &mut slots,
-        ) {
+        if !call_replies::answer(call, out, records, children, text, &mut used, &mut slots) {
             return over();
         }
     }

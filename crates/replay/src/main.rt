@@ -10,13 +10,7 @@ use script::call;
 use script::store;
 
 // The script's stores in turn.
-fn stores(
-    fd: i32,
-    out: &mut Buffer,
-    records: &mut [u64],
-    children: &mut [u64],
-    text: &mut [u8],
-) {
+fn stores(fd: i32, out: &mut Buffer, records: &mut [u64], children: &mut [u64], text: &mut [u8]) {
     let mut ordinal: usize = 0;
     let mut left = call::MOST_WORDS;
     let mut asked = store::first_store();
