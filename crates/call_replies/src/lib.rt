@@ -47,6 +47,7 @@ fn read(
             slots,
         ),
         41 | 42 => walks::answer(call, out, records, children, text, used, slots),
+        43 => walks::answer_many(call, out, records, children, text, used, slots),
         53 | 54 => chunks::answer(call, out, records, children, text, used, slots),
         60 | 61 | 64 => record::answer(call, out, records, children, text, used),
         _ => not_offered(call, out),

@@ -1,8 +1,9 @@
-// Calls 41 and 42: a walk that has begun, which stays in its slot.
+// Calls 41 to 43: a walk that has begun, which stays in its slot.
 
 ghost use Prim.Native.Nat.{_≤_, _<_};
 ghost use Rattle.green.specs.Store.{here};
 ghost use Rattle.green.specs.Valid.{Valid};
+use crate::many;
 use files::out;
 use files::out::Buffer;
 use green::Counts;
@@ -71,7 +72,7 @@ fn skip(out: &mut Buffer, slots: &mut Slots, slot: usize, it: Walk)
     }
 }
 
-// The word is a slot. Whether the script goes on.
+// Calls 41 and 42: the word is a slot. Whether the script goes on, here and below.
 pub fn answer(
     call: Call,
     out: &mut Buffer,
@@ -100,5 +101,44 @@ pub fn answer(
     let mut came = [0u32; 64];
     let answer = step(records, children, text, used, slots, slot, it, &mut came);
     line::put_answer(out, answer, &came);
+    true
+}
+
+// Call 43: the words are a slot and how many steps are asked for.
+pub fn answer_many(
+    call: Call,
+    out: &mut Buffer,
+    records: &[u64],
+    children: &[u64],
+    text: &[u8],
+    used: &Counts,
+    slots: &mut Slots,
+) -> bool
+    requires { ⌜ Valid (here records children text used) ⌝ }
+{
+    let word = words::take_below(call, call.m, 4);
+    if !word.ok || !words::has_words(call, word.left, 1) {
+        return false;
+    }
+    let n = words::read_word(call);
+    if !n.ok {
+        return false;
+    }
+    let it = kept::read(slots, word.value);
+    if it.is_there {
+        many::put(
+            out,
+            records,
+            children,
+            text,
+            used,
+            slots,
+            word.value,
+            n.value,
+        );
+    } else {
+        out::put(out, b"no walk");
+    }
+    out::put(out, b"\n");
     true
 }
