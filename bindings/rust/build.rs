@@ -14,7 +14,10 @@ fn main() {
     for archive in ARCHIVES {
         let file = folder.join(format!("lib{archive}.a"));
         if !file.is_file() {
-            println!("cargo::error=no {}: run bindings/build, or set NOTES_TREE_LIB to the archives' folder", file.display());
+            println!(
+                "cargo::error=no {}: run bindings/build, or set NOTES_TREE_LIB to the archives' folder",
+                file.display()
+            );
         }
         println!("cargo::rerun-if-changed={}", file.display());
         println!("cargo::rustc-link-lib=static={archive}");

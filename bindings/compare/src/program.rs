@@ -3,13 +3,15 @@
 use std::{collections::HashMap, fmt::Write};
 
 use super::side::{
-    answer, identity, place, Bench, Builder, Direction, Element, GreenElement, GreenNode, Node, SyntaxKind, Text, TextRange,
-    WalkEvent,
+    answer, identity, place, Bench, Builder, Direction, Element, GreenElement, GreenNode, Node, SyntaxKind, Text,
+    TextRange, WalkEvent,
 };
 use crate::random::Random;
 
 /// Trees beyond this text length or size are not put into others.
 const MOST: usize = 300;
+/// Texts of tokens.
+const TEXTS: [&str; 6] = ["", "a", "b", "ab", "abc", " "];
 
 struct Program {
     random: Random,
@@ -160,7 +162,9 @@ impl Program {
                 let (one, other) = (bench.root(one), bench.root(other));
                 let (left, right) = (one.text(), other.text());
                 let (from, to) = (random.below(6) as u32, random.below(6) as u32);
-                let slice = |text: &Text| answer(|| text.slice(TextRange::new(from.into(), to.into()))).map(|it| it.to_string());
+                let slice = |text: &Text| {
+                    answer(|| text.slice(TextRange::new(from.into(), to.into()))).map(|it| it.to_string())
+                };
                 let sliced = |text: &Text, other: &Text| -> Option<bool> {
                     let range = || TextRange::new(from.into(), to.into());
                     Some(answer(|| text.slice(range()))? == answer(|| other.slice(range()))?)
@@ -188,7 +192,7 @@ fn events(random: &mut Random, builder: &mut Builder) {
     builder.start_node(kind(random));
     for _ in 0..random.below(50) {
         match random.below(10) {
-            0..=3 => builder.token(kind(random), *random.one_of(&["", "a", "b", "ab", "abc", " "])),
+            0..=3 => builder.token(kind(random), TEXTS[random.below(TEXTS.len())]),
             4 | 5 if open < 12 => {
                 builder.start_node(kind(random));
                 open += 1;

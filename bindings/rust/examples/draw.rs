@@ -23,7 +23,7 @@ const COLUMN: usize = 290;
 const BOX_WIDTH: usize = 190;
 const MARGIN: usize = 12;
 /// Longer texts are cut.
-const TEXT: usize = 24;
+const TEXT: usize = 26;
 
 fn main() -> ExitCode {
     let words: Vec<String> = env::args().skip(1).collect();
@@ -133,7 +133,12 @@ impl Records {
             let (from, to) = (x0 + BOX_WIDTH, x1);
             let bend = (to - from) / 2;
             let class = self.drawn[*child].line_class();
-            writeln!(svg, "<path class=\"{class}\" d=\"M{from} {y0}C{} {y0} {} {y1} {to} {y1}\"/>", from + bend, to - bend)?;
+            writeln!(
+                svg,
+                "<path class=\"{class}\" d=\"M{from} {y0}C{} {y0} {} {y1} {to} {y1}\"/>",
+                from + bend,
+                to - bend
+            )?;
         }
         for (record, (x, y)) in self.drawn.iter().zip(&places) {
             record.draw(*x, *y, &mut svg)?;
@@ -159,12 +164,12 @@ rect.back{fill:#fff;stroke:none}
 
 impl Drawn {
     fn of(element: &SyntaxElement) -> Drawn {
-        let text = element.to_string();
+        let text = format!("{:?}", element.to_string());
         let mut cut: String = text.chars().take(TEXT).collect();
         if cut.len() < text.len() {
             cut.push_str("..");
         }
-        Drawn { kind: Kind::of(element.kind()), text: cut.replace('\n', "\\n"), column: 0, lines_in: 0 }
+        Drawn { kind: Kind::of(element.kind()), text: cut, column: 0, lines_in: 0 }
     }
 
     fn is_token(&self) -> bool {
@@ -192,8 +197,16 @@ impl Drawn {
         };
         let (top, base) = (y - BOX_HEIGHT / 2, y + 4);
         let text = self.text.replace('&', "&amp;").replace('<', "&lt;");
-        writeln!(svg, "<rect class=\"{class}\" x=\"{x}\" y=\"{top}\" width=\"{BOX_WIDTH}\" height=\"{BOX_HEIGHT}\" rx=\"3\"/>")?;
-        write!(svg, "<text x=\"{}\" y=\"{base}\"><tspan class=\"kind\">{}</tspan> {text}</text>", x + 5, self.kind.name())?;
+        writeln!(
+            svg,
+            "<rect class=\"{class}\" x=\"{x}\" y=\"{top}\" width=\"{BOX_WIDTH}\" height=\"{BOX_HEIGHT}\" rx=\"3\"/>"
+        )?;
+        write!(
+            svg,
+            "<text x=\"{}\" y=\"{base}\"><tspan class=\"kind\">{}</tspan> {text}</text>",
+            x + 5,
+            self.kind.name()
+        )?;
         if self.lines_in > 1 {
             write!(svg, "<text class=\"count\" x=\"{}\" y=\"{base}\">x {}</text>", x + BOX_WIDTH + 4, self.lines_in)?;
         }

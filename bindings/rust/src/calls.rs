@@ -252,10 +252,7 @@ impl<'b> Places<'b> {
     ) -> Result<usize, Refusal> {
         // SAFETY: the places are the store's own; path and words have the lengths that the header says.
         judged(unsafe {
-            read!(
-                self,
-                notes_covering_element(root as usize, path.as_mut_ptr(), depth, start, end, words.as_mut_ptr())
-            )
+            read!(self, notes_covering_element(root as usize, path.as_mut_ptr(), depth, start, end, words.as_mut_ptr()))
         })
     }
 

@@ -44,8 +44,8 @@ pub use crate::{
         SyntaxToken,
     },
     green::{
-        BuildError, Checkpoint, Children, GreenElement, GreenNode, GreenNodeBuilder, GreenToken, Record, Run, Sheet, Store,
-        SyntaxKind,
+        BuildError, Checkpoint, Children, GreenElement, GreenNode, GreenNodeBuilder, GreenToken, Record, Run, Sheet,
+        Store, SyntaxKind,
     },
     refusal::Refusal,
     syntax_text::SyntaxText,

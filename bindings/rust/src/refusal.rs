@@ -40,7 +40,17 @@ impl Refusal {
     pub(crate) fn of_number(number: usize) -> Refusal {
         use Refusal::*;
         let all = [
-            Sheet, Event, Text, NoSuchElement, Outside, OtherKind, NothingOpen, UnfitCheckpoint, Unfinished, TooLarge, Full,
+            Sheet,
+            Event,
+            Text,
+            NoSuchElement,
+            Outside,
+            OtherKind,
+            NothingOpen,
+            UnfitCheckpoint,
+            Unfinished,
+            TooLarge,
+            Full,
             SkipTooEarly,
         ];
         let found = all.into_iter().find(|refusal| refusal.number() == number);

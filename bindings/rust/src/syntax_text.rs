@@ -104,24 +104,24 @@ impl<'s> SyntaxText<'s> {
 
     /// Folds the chunks up to the first error: one for each token in order that meets the text, touching included, so empty
     /// chunks occur.
-    pub fn try_fold_chunks<T, F, E>(&self, init: T, mut f: F) -> Result<T, E>
+    pub fn try_fold_chunks<T, F, E>(&self, init: T, f: F) -> Result<T, E>
     where
         F: FnMut(T, &str) -> Result<T, E>,
     {
-        self.chunks().try_fold(init, |folded, chunk| f(folded, chunk))
+        self.chunks().try_fold(init, f)
     }
 
     /// Calls `f` with each chunk up to the first error.
-    pub fn try_for_each_chunk<F, E>(&self, mut f: F) -> Result<(), E>
+    pub fn try_for_each_chunk<F, E>(&self, f: F) -> Result<(), E>
     where
         F: FnMut(&str) -> Result<(), E>,
     {
-        self.chunks().try_for_each(|chunk| f(chunk))
+        self.chunks().try_for_each(f)
     }
 
     /// Calls `f` with each chunk.
-    pub fn for_each_chunk<F: FnMut(&str)>(&self, mut f: F) {
-        self.chunks().for_each(|chunk| f(chunk));
+    pub fn for_each_chunk<F: FnMut(&str)>(&self, f: F) {
+        self.chunks().for_each(f);
     }
 
     fn ends(&self) -> (usize, usize) {
@@ -135,13 +135,7 @@ impl<'s> SyntaxText<'s> {
     }
 
     /// Puts a question of this text's node, with the other text's path if there are two.
-    fn put(
-        &self,
-        code: usize,
-        operands: Words,
-        other: &mut [u32; 64],
-        words: &mut Words,
-    ) -> Result<usize, Refusal> {
+    fn put(&self, code: usize, operands: Words, other: &mut [u32; 64], words: &mut Words) -> Result<usize, Refusal> {
         let Handle { store, root, depth, mut path, .. } = self.node.0;
         store.places.query(code, root, (&mut path, other), depth, operands, words)
     }
@@ -157,7 +151,8 @@ impl PartialEq for SyntaxText<'_> {
         let Handle { store, root, depth, mut path, .. } = other.node.0;
         if self.node.0.store.id != store.id {
             // No call takes two stores.
-            return self.len() == other.len() && self.chunks().flat_map(str::bytes).eq(other.chunks().flat_map(str::bytes));
+            return self.len() == other.len()
+                && self.chunks().flat_map(str::bytes).eq(other.chunks().flat_map(str::bytes));
         }
         let ((start, end), (other_start, other_end)) = (self.ends(), other.ends());
         let operands = [start, end, root as usize, depth, other_start, other_end, 0, 0];

@@ -1,8 +1,8 @@
 //! Document 01's cases, with the values that the paper gives.
 
 use notes_tree::{
-    BuildError, GreenElement, GreenNode, GreenNodeBuilder, GreenToken, NodeOrToken, Refusal, Store, SyntaxKind, SyntaxNode,
-    TextRange, TokenAtOffset, WalkEvent,
+    BuildError, GreenElement, GreenNode, GreenNodeBuilder, GreenToken, NodeOrToken, Refusal, Store, SyntaxKind,
+    SyntaxNode, TextRange, TokenAtOffset, WalkEvent,
 };
 
 fn kind(number: u16) -> SyntaxKind {
@@ -150,13 +150,17 @@ fn edits() {
     let shorter = longer.remove_child(&mut store, 0).unwrap();
     assert_eq!(root(&store, shorter).text(), " 12 ");
     let children: Vec<(GreenElement, u32)> = green.children(&store).unwrap().collect();
-    assert_eq!(children.iter().map(|(child, offset)| (child.number(), *offset)).collect::<Vec<_>>(), [(0, 0), (1, 2), (2, 3)]);
+    assert_eq!(
+        children.iter().map(|(child, offset)| (child.number(), *offset)).collect::<Vec<_>>(),
+        [(0, 0), (1, 2), (2, 3)]
+    );
     let spliced = green.splice_children(&mut store, 0..=1, [children[2].0, children[1].0]).unwrap();
     assert_eq!(root(&store, spliced).text(), "12 12");
 
     assert_eq!(green.insert_child(&mut store, 4, blank).unwrap_err(), Refusal::Outside);
     assert_eq!(green.remove_child(&mut store, 3).unwrap_err(), Refusal::Outside);
-    assert_eq!(green.splice_children(&mut store, 2..1, []).unwrap_err(), Refusal::Outside);
+    let backwards = std::ops::Range { start: 2, end: 1 };
+    assert_eq!(green.splice_children(&mut store, backwards, []).unwrap_err(), Refusal::Outside);
     assert_eq!(green.splice_children(&mut store, ..=usize::MAX, []).unwrap_err(), Refusal::Outside);
     assert_eq!(green.child(&store, 3).unwrap_err(), Refusal::Outside);
 }
@@ -324,7 +328,10 @@ fn handles() {
     let green = tree_t(&mut store);
     let root = root(&store, green);
     let blank = root.first_token().unwrap().next_token().unwrap();
-    assert_eq!((blank.text(), blank.kind(), blank.text_range(), blank.index()), (" ", kind(3), TextRange::new(2, 3), 1));
+    assert_eq!(
+        (blank.text(), blank.kind(), blank.text_range(), blank.index()),
+        (" ", kind(3), TextRange::new(2, 3), 1)
+    );
     assert_eq!(blank.parent().unwrap(), root);
     assert_eq!(blank.ancestors().count(), 1);
     assert_eq!(blank.tree_top(), root);

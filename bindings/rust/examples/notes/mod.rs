@@ -32,13 +32,11 @@ pub enum Kind {
 }
 
 impl Kind {
-    const ALL: [Kind; 14] = [
-        Kind::Job, Kind::Setup, Kind::Sight, Kind::Target, Kind::Reading, Kind::Remark, Kind::Title, Kind::Other,
-        Kind::Keyword, Kind::Point, Kind::Number, Kind::Word, Kind::Blank, Kind::Newline,
-    ];
-
     pub fn of(kind: SyntaxKind) -> Kind {
-        let found = Kind::ALL.into_iter().find(|known| *known as u16 == kind.0);
+        use Kind::*;
+        let nodes = [Job, Setup, Sight, Target, Reading, Remark, Title, Other];
+        let tokens = [Keyword, Point, Number, Word, Blank, Newline];
+        let found = nodes.into_iter().chain(tokens).find(|known| *known as u16 == kind.0);
         found.expect("the parser makes no other kind")
     }
 
@@ -174,11 +172,13 @@ impl Parser {
 
 /// A line's words, the blanks between them and its newline.
 fn pieces(line: &str) -> Vec<&str> {
-    let bytes = line.as_bytes();
-    let class = |byte: u8| (byte == b'\n', is_blank_byte(byte));
-    bytes.chunk_by(|one, next| class(*one) == class(*next)).map(|piece| {
-        let start = piece.as_ptr() as usize - bytes.as_ptr() as usize;
-        &line[start..start + piece.len()]
+    let class = |byte: &u8| (*byte == b'\n', is_blank_byte(*byte));
+    let mut rest = line;
+    let runs = line.as_bytes().chunk_by(|one, next| class(one) == class(next));
+    runs.map(|run| {
+        let (piece, after) = rest.split_at(run.len());
+        rest = after;
+        piece
     })
     .collect()
 }

@@ -29,8 +29,7 @@ const NAMED: &str = "a handle names an element of its store";
 impl<'s> Handle<'s> {
     /// The element at a path, by the question where it is.
     pub fn at(store: &'s Store<'s>, root: u32, depth: usize, path: Indexes) -> Result<SyntaxElement<'s>, Refusal> {
-        let mut handle =
-            Handle { store, root, depth, kind: SyntaxKind(0), range: TextRange::default(), path };
+        let mut handle = Handle { store, root, depth, kind: SyntaxKind(0), range: TextRange::default(), path };
         let (mut other, mut words) = ([0; 64], Words::default());
         let paths = (&mut handle.path, &mut other);
         let outcome = store.places.query(ffi::HERE, root, paths, depth, Words::default(), &mut words)?;
@@ -125,8 +124,7 @@ impl<'s> Handle<'s> {
         let paths = (&mut path, &mut other_path);
         let operands = [other.root as usize, other.depth, 0, 0, 0, 0, 0, 0];
         let places = &self.store.places;
-        let outcome =
-            places.query(ffi::SAME_ELEMENT, self.root, paths, self.depth, operands, &mut Words::default());
+        let outcome = places.query(ffi::SAME_ELEMENT, self.root, paths, self.depth, operands, &mut Words::default());
         outcome.expect(NAMED) == ffi::YES
     }
 

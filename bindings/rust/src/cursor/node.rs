@@ -203,7 +203,8 @@ impl<'s> SyntaxNode<'s> {
     /// not within the node.
     pub fn covering_element(&self, range: TextRange) -> Result<SyntaxElement<'s>, Refusal> {
         let range = (range.start() as usize, range.end() as usize);
-        let found = self.0.ask(|places, root, path, depth, words| places.covering_element(root, path, depth, range, words))?;
+        let found =
+            self.0.ask(|places, root, path, depth, words| places.covering_element(root, path, depth, range, words))?;
         Ok(found.expect("a node covers what is within it"))
     }
 

@@ -24,11 +24,19 @@ pub struct Checkpoint(usize);
 /// What a builder was told.
 #[derive(Debug, Clone)]
 enum Call {
-    Token { kind: SyntaxKind, length: usize },
-    StartNode { kind: SyntaxKind },
+    Token {
+        kind: SyntaxKind,
+        length: usize,
+    },
+    StartNode {
+        kind: SyntaxKind,
+    },
     FinishNode,
     /// `since`: before which call the list last had the checkpoint's length, if it ever had.
-    StartNodeAt { kind: SyntaxKind, since: Option<usize> },
+    StartNodeAt {
+        kind: SyntaxKind,
+        since: Option<usize>,
+    },
 }
 
 /// A builder of a green tree. As rowan's: its methods answer nothing, and what breaks a rule is refused by [`finish`], where
