@@ -1,0 +1,23 @@
+-- `begin` meets its contract. Assumes nothing.
+use borrow.Author.Needs.{needs}
+use Rattle.abi.proofs.walk.begin.Statement.{statement}
+use Rattle.abi.proofs.walk.begin.Tie as tie
+
+returns : tie.Need-returns
+returns c = rw (c .before .before .before .moved .given .1, (c .before .coming-word .ensures), (c .bit .ensures))
+
+pub begin-spec : {M : Type 1} → statement M
+begin-spec =
+    tie.close
+    (tie.spec
+    (λ c. search needs)
+    (λ c κs. search needs)
+    (λ c. search needs)
+    (λ c. search needs)
+    (λ c. search needs)
+    (λ c. search needs)
+    (λ c κs. search needs)
+    (λ c. search needs)
+    (λ c. search needs)
+    returns
+    (λ c. search needs))
