@@ -187,34 +187,38 @@ impl Program {
 /// Random builder events, mostly of a whole tree.
 fn events(random: &mut Random, builder: &mut Builder) {
     let kind = |random: &mut Random| SyntaxKind(random.below(4) as u16);
-    let mut checkpoints = vec![builder.checkpoint()];
-    let mut open = 1;
+    let mut checkpoints = Vec::new();
+    // For each open node, how many checkpoints lie before it: those do not fit.
+    let mut open = vec![0];
     builder.start_node(kind(random));
-    for _ in 0..random.below(50) {
-        match random.below(10) {
+    for _ in 0..random.below(60) {
+        match random.below(12) {
             0..=3 => builder.token(kind(random), TEXTS[random.below(TEXTS.len())]),
-            4 | 5 if open < 12 => {
+            4 | 5 if open.len() < 12 => {
                 builder.start_node(kind(random));
-                open += 1;
+                open.push(checkpoints.len());
             }
-            6 | 7 if open > 1 || random.once_in(40) => {
+            6 | 7 if open.len() > 1 || random.once_in(40) => {
                 builder.finish_node();
-                open -= 1;
+                checkpoints.truncate(open.pop().unwrap_or(0) + 1);
             }
-            8 => checkpoints.push(builder.checkpoint()),
-            // Of the last ones most fit; an older one is often refused.
-            9 if random.once_in(3) && open < 12 => {
-                let at = checkpoints.len() - 1 - if random.once_in(12) { random.below(checkpoints.len()) } else { 0 };
-                builder.start_node_at(checkpoints[at], kind(random));
-                open += 1;
+            8 | 9 => checkpoints.push(builder.checkpoint()),
+            10 | 11 if !checkpoints.is_empty() && open.len() < 12 => {
+                // Mostly one that fits.
+                let before = if random.once_in(30) { 0 } else { open[open.len() - 1] };
+                let at = before + random.below(checkpoints.len().saturating_sub(before));
+                if let Some(checkpoint) = checkpoints.get(at) {
+                    builder.start_node_at(*checkpoint, kind(random));
+                    open.push(at);
+                }
             }
             _ => {}
         }
-        if open == 0 {
+        if open.is_empty() {
             return;
         }
     }
-    (0..open).for_each(|_| builder.finish_node());
+    open.iter().for_each(|_| builder.finish_node());
 }
 
 fn steps(met: &mut HashMap<u64, usize>, element: &Element, answers: &mut String) {

@@ -29,18 +29,38 @@ const NAMED: &str = "a handle names an element of its store";
 impl<'s> Handle<'s> {
     /// The element at a path, by the question where it is.
     pub fn at(store: &'s Store<'s>, root: u32, depth: usize, path: Indexes) -> Result<SyntaxElement<'s>, Refusal> {
-        let mut handle = Handle { store, root, depth, kind: SyntaxKind(0), range: TextRange::default(), path };
-        let (mut other, mut words) = ([0; 64], Words::default());
-        let paths = (&mut handle.path, &mut other);
-        let outcome = store.places.query(ffi::HERE, root, paths, depth, Words::default(), &mut words)?;
-        Ok(handle.element(outcome, &words))
+        let handle = Handle { store, root, depth, kind: SyntaxKind(0), range: TextRange::default(), path };
+        let here = |places: &Places<'s>, root, path: &mut Indexes, depth, words: &mut Words| {
+            places.query(ffi::HERE, root, (path, &mut [0; 64]), depth, Words::default(), words)
+        };
+        handle.ask(here).map(|found| found.expect(NAMED))
     }
 
-    /// The element that a call has answered, whose path is this handle's by now. Words: start, end, depth, kind.
-    pub fn element(mut self, outcome: usize, words: &[usize]) -> SyntaxElement<'s> {
+    /// Goes where a call has answered; the path is there by now. Words: start, end, depth, kind.
+    #[inline]
+    pub fn arrive(&mut self, words: &[usize]) {
         self.range = TextRange::new(words[0] as TextSize, words[1] as TextSize);
         self.depth = words[2];
         self.kind = SyntaxKind(words[3] as u16);
+    }
+
+    /// Goes to the element that a question answers, and says what that is; stays if there is none.
+    #[inline]
+    fn go<Q>(&mut self, question: Q) -> Result<usize, Refusal>
+    where
+        Q: FnOnce(&Places<'s>, u32, &mut Indexes, usize, &mut Words) -> Result<usize, Refusal>,
+    {
+        let mut words = Words::default();
+        let outcome = question(&self.store.places, self.root, &mut self.path, self.depth, &mut words)?;
+        if outcome != ffi::NONE {
+            self.arrive(&words);
+        }
+        Ok(outcome)
+    }
+
+    /// This handle as an element, node or token by the outcome.
+    #[inline]
+    pub fn element(self, outcome: usize) -> SyntaxElement<'s> {
         match outcome {
             ffi::NODE => NodeOrToken::Node(SyntaxNode(self)),
             ffi::TOKEN => NodeOrToken::Token(SyntaxToken(self)),
@@ -48,17 +68,16 @@ impl<'s> Handle<'s> {
         }
     }
 
-    /// The answer to a question whose answer is an element: one foreign call on one copy of the path.
+    /// The element that a question answers.
     #[inline]
     pub fn ask<Q>(&self, question: Q) -> Result<Option<SyntaxElement<'s>>, Refusal>
     where
         Q: FnOnce(&Places<'s>, u32, &mut Indexes, usize, &mut Words) -> Result<usize, Refusal>,
     {
         let mut answer = self.clone();
-        let mut words = Words::default();
-        match question(&self.store.places, self.root, &mut answer.path, self.depth, &mut words)? {
+        match answer.go(question)? {
             ffi::NONE => Ok(None),
-            outcome => Ok(Some(answer.element(outcome, &words))),
+            outcome => Ok(Some(answer.element(outcome))),
         }
     }
 
@@ -68,16 +87,26 @@ impl<'s> Handle<'s> {
     where
         Q: FnOnce(&Places<'s>, u32, &mut Indexes, usize, &mut Words) -> Result<usize, Refusal>,
     {
-        self.ask(question).expect(NAMED)
+        let mut answer = self.clone();
+        match answer.go(question).expect(NAMED) {
+            ffi::NONE => None,
+            outcome => Some(answer.element(outcome)),
+        }
     }
 
-    /// The same, of a question whose answer is a node.
+    /// The same, of a question whose answer is a node. It is made where it is returned, so the path is copied once.
     #[inline]
     pub fn step_to_node<Q>(&self, question: Q) -> Option<SyntaxNode<'s>>
     where
         Q: FnOnce(&Places<'s>, u32, &mut Indexes, usize, &mut Words) -> Result<usize, Refusal>,
     {
-        self.step(question).and_then(NodeOrToken::into_node)
+        let mut answer = Some(SyntaxNode(self.clone()));
+        if let Some(SyntaxNode(handle)) = &mut answer {
+            if handle.go(question).expect(NAMED) == ffi::NONE {
+                answer = None;
+            }
+        }
+        answer
     }
 
     /// The same, of a question whose answer is a token.
@@ -86,7 +115,13 @@ impl<'s> Handle<'s> {
     where
         Q: FnOnce(&Places<'s>, u32, &mut Indexes, usize, &mut Words) -> Result<usize, Refusal>,
     {
-        self.step(question).and_then(NodeOrToken::into_token)
+        let mut answer = Some(SyntaxToken(self.clone()));
+        if let Some(SyntaxToken(handle)) = &mut answer {
+            if handle.go(question).expect(NAMED) == ffi::NONE {
+                answer = None;
+            }
+        }
+        answer
     }
 
     pub fn index(&self) -> usize {

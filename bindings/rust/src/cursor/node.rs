@@ -9,7 +9,7 @@ use crate::{
     green::{GreenElement, GreenNode, Store},
     refusal::Refusal,
     syntax_text::SyntaxText,
-    utility_types::{Direction, NodeOrToken, TextRange, TextSize, TokenAtOffset, WalkEvent},
+    utility_types::{Direction, TextRange, TextSize, TokenAtOffset, WalkEvent},
     SyntaxKind,
 };
 
@@ -188,9 +188,9 @@ impl<'s> SyntaxNode<'s> {
         let (mut left, mut right, mut words) = (self.0.clone(), self.0.clone(), Words::default());
         let paths = (&mut left.path, &mut right.path);
         let outcome = store.places.token_at_offset(root, paths, depth, offset as usize, &mut words)?;
-        let token = |handle: Handle<'s>, words: &[usize]| match handle.element(ffi::TOKEN, words) {
-            NodeOrToken::Token(token) => token,
-            NodeOrToken::Node(_) => unreachable!("only tokens are answered"),
+        let token = |mut handle: Handle<'s>, words: &[usize]| {
+            handle.arrive(words);
+            SyntaxToken(handle)
         };
         Ok(match outcome {
             ffi::NONE => TokenAtOffset::None,

@@ -74,9 +74,8 @@ impl<'s> Ahead<'s> {
         if let Some(last) = (depth as usize).checked_sub(1) {
             self.at.path[last] = index as u32;
         }
-        let outcome = if is_node == 1 { ffi::NODE } else { ffi::TOKEN };
-        let words = [start as usize, end as usize, depth as usize, kind as usize];
-        let element = self.at.clone().element(outcome, &words);
+        self.at.arrive(&[start as usize, end as usize, depth as usize, kind as usize]);
+        let element = self.at.clone().element(if is_node == 1 { ffi::NODE } else { ffi::TOKEN });
         match is_leave {
             0 => WalkEvent::Enter(element),
             _ => WalkEvent::Leave(element),
