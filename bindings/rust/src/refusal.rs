@@ -23,7 +23,7 @@ pub enum Refusal {
     UnfitCheckpoint = 12,
     /// 13: what is left at the end is not one node.
     Unfinished = 13,
-    /// 14: over 64 open nodes, 4,096 waiting elements or children, height 64, or 1,048,576 elements.
+    /// 14: over 64 open nodes, 4,096 waiting elements or children, height 64, 1,048,576 elements or 4,294,967,295 bytes.
     TooLarge = 14,
     /// 15: the store's places are used up.
     Full = 15,
