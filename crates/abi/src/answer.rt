@@ -5,13 +5,14 @@ ghost use mathlib.Core.List.{[], _∷_};
 ghost use Prim.Native.Nat.{_+_, _^_, _<_};
 ghost use Rattle.utility_types.specs.Numbers.{refusalNumber};
 ghost use Rattle.utility_types.specs.declared.TokenAtOffset.the-variants.{Between};
-ghost use Rattle.abi.specs.Outcomes.{told, elementKind, elementTold, eventWords, bit as bitOf, atOffsetTold, answerTold, tokensTold, truthTold, replyTold, madeTold, endedTold, eventTold, stopOutcome, chunkTold, summaryTold, childTold, Tells};
+ghost use Rattle.abi.specs.Outcomes.{told, elementKind, elementTold, eventWords, bit as bitOf, atOffsetTold, answerTold, tokensTold, truthTold, replyTold, madeTold, endedTold, eventTold, movedTold, stopOutcome, chunkTold, summaryTold, childTold, Tells};
 use crate::Words;
 use cursor::position::Answer;
 use cursor_offset::offset::Tokens;
 use green::element::Summarized;
 use green::node::ChildAt;
 use preorder::state::Answer as WalkAnswer;
+use preorder::state::Moved;
 use preorder_many::state::Stop;
 use query::reply::Reply;
 use sheet_run::Ended;
@@ -173,6 +174,16 @@ pub fn put_walk(words: &mut Words, answer: WalkAnswer) -> usize
         },
         WalkAnswer::Ended => 0,
         WalkAnswer::Refused(why) => refused(why),
+    }
+}
+
+// A walk that begins or is skipped on; it has no words.
+pub fn moved(moved: Moved) -> usize
+    ensures { λ r. ⌜ r ≡ movedTold moved .outcome ⌝ }
+{
+    match moved {
+        Moved::To(_) => 8,
+        Moved::Refused(why) => refused(why),
     }
 }
 
