@@ -4,14 +4,19 @@ use std::fmt;
 
 use crate::{
     calls::{Event, Walk},
-    cursor::{Handle, SyntaxElement, SyntaxNode},
-    ffi,
+    cursor::{Handle, SyntaxElement, SyntaxNode, SyntaxToken},
     refusal::Refusal,
     utility_types::{NodeOrToken, WalkEvent},
 };
 
 /// The most events that one call gives.
 const MANY: usize = 32;
+
+/// What an event is, beside its element.
+struct Step {
+    is_leave: bool,
+    is_node: bool,
+}
 
 /// A walk and the events that it has given ahead of its reader.
 #[derive(Clone)]
@@ -55,7 +60,8 @@ impl<'s> Ahead<'s> {
         self.has_ended = self.given < count;
     }
 
-    fn next(&mut self) -> Option<WalkEvent<SyntaxElement<'s>>> {
+    /// Goes to the next event's element. None at the walk's end.
+    fn advance(&mut self) -> Option<Step> {
         if self.taken == self.given {
             if self.has_ended {
                 return None;
@@ -65,21 +71,13 @@ impl<'s> Ahead<'s> {
             self.walk_on(self.at_most);
             self.at_most = MANY.min(self.at_most * 2);
         }
-        let event = *self.events[..self.given].get(self.taken)?;
+        let [is_leave, is_node, kind, depth, index, start, end] = *self.events[..self.given].get(self.taken)?;
         self.taken += 1;
-        Some(self.read(event))
-    }
-
-    fn read(&mut self, [is_leave, is_node, kind, depth, index, start, end]: Event) -> WalkEvent<SyntaxElement<'s>> {
         if let Some(last) = (depth as usize).checked_sub(1) {
             self.at.path[last] = index as u32;
         }
         self.at.arrive(&[start as usize, end as usize, depth as usize, kind as usize]);
-        let element = self.at.clone().element(if is_node == 1 { ffi::NODE } else { ffi::TOKEN });
-        match is_leave {
-            0 => WalkEvent::Enter(element),
-            _ => WalkEvent::Leave(element),
-        }
+        Some(Step { is_leave: is_leave == 1, is_node: is_node == 1 })
     }
 
     /// Takes back what was given ahead, and skips where the reader is.
@@ -142,12 +140,15 @@ impl<'s> Preorder<'s> {
 impl<'s> Iterator for Preorder<'s> {
     type Item = WalkEvent<SyntaxNode<'s>>;
 
+    #[inline]
     fn next(&mut self) -> Option<WalkEvent<SyntaxNode<'s>>> {
-        let event = self.0.next()?;
-        Some(event.map(|element| match element {
-            NodeOrToken::Node(node) => node,
-            NodeOrToken::Token(_) => unreachable!("a walk of nodes gives nodes"),
-        }))
+        let step = self.0.advance()?;
+        let at = &self.0.at;
+        // Each made where it is returned, so the path is copied once.
+        match step.is_leave {
+            false => Some(WalkEvent::Enter(SyntaxNode(at.clone()))),
+            true => Some(WalkEvent::Leave(SyntaxNode(at.clone()))),
+        }
     }
 }
 
@@ -169,8 +170,16 @@ impl<'s> PreorderWithTokens<'s> {
 impl<'s> Iterator for PreorderWithTokens<'s> {
     type Item = WalkEvent<SyntaxElement<'s>>;
 
+    #[inline]
     fn next(&mut self) -> Option<WalkEvent<SyntaxElement<'s>>> {
-        self.0.next()
+        let step = self.0.advance()?;
+        let at = &self.0.at;
+        match (step.is_leave, step.is_node) {
+            (false, true) => Some(WalkEvent::Enter(NodeOrToken::Node(SyntaxNode(at.clone())))),
+            (false, false) => Some(WalkEvent::Enter(NodeOrToken::Token(SyntaxToken(at.clone())))),
+            (true, true) => Some(WalkEvent::Leave(NodeOrToken::Node(SyntaxNode(at.clone())))),
+            (true, false) => Some(WalkEvent::Leave(NodeOrToken::Token(SyntaxToken(at.clone())))),
+        }
     }
 }
 
