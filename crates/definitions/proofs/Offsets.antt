@@ -4,9 +4,8 @@ use native.Mathlib.Omega.{arith}
 use mathlib.Core.Path.{_≡_, refl}
 use mathlib.Core.List.{List, [], _∷_}
 use lib.ListN.{length, getD}
-use Rattle.definitions.specs.Tree.{Forest, nil, cons, textLen, textLens}
+use Rattle.definitions.specs.Tree.{Forest, nil, cons, textLen, textLens, offsetOf}
 use Rattle.definitions.specs.Entry.{Entry, treeAt, treesAt}
-use Rattle.green.specs.Layout.{offsetOf}
 
 pub offset-zero : (f : Forest) → offsetOf f 0 ≡ 0
 unfolding offsetOf
