@@ -1,5 +1,5 @@
 -- What the words of a store are, entry by entry: what a list of entries is written as.
-use Prim.Native.Nat.{ℕ, suc, _+_, _*_, _^_}
+use Prim.Native.Nat.{ℕ, _+_, _*_, _^_}
 use mathlib.Core.List.{List, [], _∷_, _++_, flatMap}
 use mathlib.Core.Bool.{cond}
 use lib.ListN.{length, take}
