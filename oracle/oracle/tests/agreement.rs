@@ -168,7 +168,7 @@ fn profiles_hold_what_they_say() {
     let sheets = BTreeSet::from([1, 2, 3]);
     let edits = BTreeSet::from([10, 11, 12, 13, 14]);
     let queries: BTreeSet<u8> = (20..=38).collect();
-    let others = (40..=42).chain(50..=58).chain([60, 61, 64]);
+    let others = (40..=43).chain(50..=58).chain([60, 61, 64]);
     let reading: BTreeSet<u8> = queries.iter().copied().chain(others).collect();
     assert_eq!(ops(Profile::Sheets), sheets);
     assert_eq!(ops(Profile::Queries), &sheets | &queries);
