@@ -42,7 +42,7 @@ fn form(call: &Call, reply: &Reply) -> String {
 
 /// The forms that the replies to each call can have, those of refusals as their numbers.
 #[rustfmt::skip]
-const FORMS: [(u8, &str, &[u8]); 42] = [
+const FORMS: [(u8, &str, &[u8]); 43] = [
     (1, "ok", &[]),
     (2, "root", &[1, 2, 3, 11, 12, 13, 14, 15]),
     (3, "root", &[1, 2, 3, 11, 12, 13, 14, 15]),
@@ -73,6 +73,8 @@ const FORMS: [(u8, &str, &[u8]); 42] = [
     (40, "ok", &[4]),
     (41, "enter node, enter token, leave node, leave token, ended, no walk", &[]),
     (42, "ok, no walk", &[16]),
+    // of the first of its events; none at all if none was asked for
+    (43, "enter node, enter token, leave node, leave token, ended, no walk, ", &[]),
     (50, "ok", &[4]),
     (51, "ok, no text", &[5]),
     (52, "length, no text", &[]),
