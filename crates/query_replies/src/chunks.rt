@@ -175,7 +175,16 @@ pub fn answer(
     if !word.ok {
         return false;
     }
-    put(call.op, out, records, children, text, used, slots, word.value + 4);
+    put(
+        call.op,
+        out,
+        records,
+        children,
+        text,
+        used,
+        slots,
+        word.value + 4,
+    );
     out::put(out, b"\n");
     true
 }

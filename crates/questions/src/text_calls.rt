@@ -29,13 +29,7 @@ fn of_node(call: Call, slots: &mut Slots, path: &mut [u32; 64]) -> Asked
 }
 
 // The slice between two offsets of the text in slot `of`, for slot `to`, which is empty until it is known.
-fn slice_of(
-    slots: &mut Slots,
-    path: &mut [u32; 64],
-    to: usize,
-    of: usize,
-    ends: [u32; 2],
-) -> Asked
+fn slice_of(slots: &mut Slots, path: &mut [u32; 64], to: usize, of: usize, ends: [u32; 2]) -> Asked
     requires { ⌜ (to < 8) × (of < 8) ⌝ }
     ensures { λ r. ⌜ r .slot < 8 ⌝ }
 {

@@ -116,7 +116,10 @@ pub fn read_last_word(call: Call, m: usize) -> Word
     ensures { λ r. ⌜ r .value < 2 ^ 32 ⌝ }
 {
     if !has_words(call, m, 1) {
-        return Word { ok: false, value: 0 };
+        return Word {
+            ok: false,
+            value: 0,
+        };
     }
     read_word(call)
 }
