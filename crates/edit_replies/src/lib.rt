@@ -1,4 +1,31 @@
 // What `replay` answers to the calls of a script that make records: the run of a sheet, in `runs`, and edits, in `edit`.
 
-pub mod edit;
-pub mod runs;
+ghost use Rattle.green.specs.Store.{here};
+ghost use Rattle.green.specs.Valid.{Valid};
+use files::out::Buffer;
+use green::Counts;
+use script::call::Call;
+
+mod edit;
+mod runs;
+
+// Calls 2, 3 and 10 to 14. Whether the script goes on.
+pub fn answer(
+    call: Call,
+    out: &mut Buffer,
+    records: &mut [u64],
+    children: &mut [u64],
+    text: &mut [u8],
+    used: &mut Counts,
+) -> bool
+    requires { ⌜ Valid (here records children text used) ⌝ }
+    ensures { λ _. ⌜ Valid (here (records .exit) (children .exit) (text .exit) (used .exit)) ⌝ }
+{
+    let op = call.op;
+    match op {
+        2 | 3 => runs::answer(call, out, records, children, text, used),
+        10..=12 => edit::of_child(call, out, records, children, text, used),
+        13 => edit::splice(call, out, records, children, text, used),
+        _ => edit::replace_at(call, out, records, children, text, used),
+    }
+}

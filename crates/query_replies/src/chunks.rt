@@ -27,7 +27,6 @@ fn put_chunk(out: &mut Buffer, outcome: usize, chunk: &[u8]) {
         out::put(out, b"refused");
         show::put_number(out, outcome);
     }
-    out::put(out, b"\n");
 }
 
 // The first chunk: a state that keeps no place. How many were then given.
@@ -133,6 +132,33 @@ fn next(
     further(out, records, children, text, used, it, path, it.given - 1)
 }
 
+// The reply to call `op` on the text in a slot.
+fn put(
+    op: u32,
+    out: &mut Buffer,
+    records: &[u64],
+    children: &[u64],
+    text: &[u8],
+    used: &Counts,
+    slots: &mut Slots,
+    slot: usize,
+)
+    requires { ⌜ Valid (here records children text used) × (slot < 8) ⌝ }
+{
+    let it = kept::read(slots, slot);
+    if !it.is_there {
+        out::put(out, b"no text");
+    } else if op == 53 {
+        kept::set_given(slots, slot, 0);
+        out::put(out, b"ok");
+    } else {
+        let mut path = [0u32; 64];
+        slots::copy_out(slots, slot, &mut path);
+        let given = next(out, records, children, text, used, it, &path);
+        kept::set_given(slots, slot, given);
+    }
+}
+
 // The word is a slot. Whether the script goes on.
 pub fn answer(
     call: Call,
@@ -145,24 +171,20 @@ pub fn answer(
 ) -> bool
     requires { ⌜ Valid (here records children text used) ⌝ }
 {
-    let word = words::take_below(call, call.m, 4);
-    if !word.ok || !words::has_words(call, word.left, 0) {
+    let word = words::read_last_below(call, call.m, 4);
+    if !word.ok {
         return false;
     }
-    let slot = word.value + 4;
-    let it = kept::read(slots, slot);
-    if !it.is_there {
-        out::put(out, b"no text\n");
-        return true;
-    }
-    if call.op == 53 {
-        kept::set_given(slots, slot, 0);
-        out::put(out, b"ok\n");
-        return true;
-    }
-    let mut path = [0u32; 64];
-    slots::copy_out(slots, slot, &mut path);
-    let given = next(out, records, children, text, used, it, &path);
-    kept::set_given(slots, slot, given);
+    put(
+        call.op,
+        out,
+        records,
+        children,
+        text,
+        used,
+        slots,
+        word.value + 4,
+    );
+    out::put(out, b"\n");
     true
 }

@@ -16,6 +16,8 @@ use questions::walk as kept;
 use replies::line;
 use replies::show;
 use script::words;
+use utility_types::SyntaxElement;
+use utility_types::SyntaxKind;
 
 // What stands before a reply that is not the first.
 fn put_between(out: &mut Buffer, is_first: bool) {
@@ -34,27 +36,36 @@ fn set_index(path: &mut [u32; 64], depth: usize, index: u64) {
     }
 }
 
-// What a word says that is 0, or else 1.
-fn put_either(out: &mut Buffer, word: u64, zero: &[u8], one: &[u8]) {
-    if word == 0 {
-        out::put(out, zero);
+// A kind is less than 65536.
+fn kind_of(word: u64) -> SyntaxKind {
+    if word < 65536 {
+        SyntaxKind(word as u16)
     } else {
-        out::put(out, one);
+        SyntaxKind(0)
     }
 }
 
-// The event of seven words from `from` on; the path is that of the one before it.
+// The element of an event of seven words from `from` on.
+fn element_at(events: &[u64], from: usize) -> SyntaxElement
+    requires { ⌜ from + 7 ≤ length (now events) ⌝ }
+{
+    let kind = kind_of(events[from + 2]);
+    SyntaxElement {
+        is_node: events[from + 1] != 0,
+        kind,
+        start: events[from + 5] as usize,
+        end: events[from + 6] as usize,
+        depth: events[from + 3] as usize,
+    }
+}
+
+// Such an event; the path is that of the one before it.
 fn put_event(out: &mut Buffer, events: &[u64], from: usize, path: &mut [u32; 64])
     requires { ⌜ from + 7 ≤ length (now events) ⌝ }
 {
-    put_either(out, events[from], b"enter ", b"leave ");
-    put_either(out, events[from + 1], b"token ", b"node ");
-    out::put_number(out, b"", events[from + 2]);
-    let depth = events[from + 3] as usize;
-    set_index(path, depth, events[from + 4]);
-    out::put_number(out, b" ", events[from + 5]);
-    out::put_number(out, b" ", events[from + 6]);
-    line::put_path(out, path, depth);
+    let it = element_at(events, from);
+    set_index(path, it.depth, events[from + 4]);
+    line::put_event(out, events[from] == 0, it, path);
 }
 
 // The first `count` of them.

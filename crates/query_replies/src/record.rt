@@ -147,10 +147,7 @@ pub fn answer(
 ) -> bool
     requires { ⌜ Valid (here records children text used) ⌝ }
 {
-    if !words::has_words(call, call.m, 1) {
-        return false;
-    }
-    let word = words::read_word(call);
+    let word = words::read_last_word(call, call.m);
     if !word.ok {
         return false;
     }

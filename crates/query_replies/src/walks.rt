@@ -19,7 +19,7 @@ use replies::show;
 use script::call::Call;
 use script::words;
 
-// Moves the walk `it` of a slot on. `came` is the path of what came.
+// Moves the walk `it` of a slot on.
 fn step(
     records: &[u64],
     children: &[u64],
@@ -28,11 +28,9 @@ fn step(
     slots: &mut Slots,
     slot: usize,
     it: Walk,
-    came: &mut [u32; 64],
 ) -> Answer
     requires { ⌜ Valid (here records children text used) × (slot < 4) × (it .depth ≤ 64) ⌝ }
 {
-    slots::copy_out(slots, slot, came);
     let mut path = [0u32; 64];
     slots::copy_out(slots, slot, &mut path);
     let coming = it.coming;
@@ -54,7 +52,27 @@ fn step(
     step.answer
 }
 
-fn skip(out: &mut Buffer, slots: &mut Slots, slot: usize, it: Walk)
+// Call 41. What comes has the path that the walk had before.
+fn put_step(
+    out: &mut Buffer,
+    records: &[u64],
+    children: &[u64],
+    text: &[u8],
+    used: &Counts,
+    slots: &mut Slots,
+    slot: usize,
+    it: Walk,
+)
+    requires { ⌜ Valid (here records children text used) × (slot < 4) × (it .depth ≤ 64) ⌝ }
+{
+    let mut came = [0u32; 64];
+    slots::copy_out(slots, slot, &mut came);
+    let answer = step(records, children, text, used, slots, slot, it);
+    line::put_answer(out, answer, &came);
+}
+
+// Call 42.
+fn put_skip(out: &mut Buffer, slots: &mut Slots, slot: usize, it: Walk)
     requires { ⌜ (slot < 4) × (it .depth ≤ 64) ⌝ }
 {
     let coming = it.coming;
@@ -63,16 +81,73 @@ fn skip(out: &mut Buffer, slots: &mut Slots, slot: usize, it: Walk)
         Moved::To(ahead) => {
             let then = ahead.coming;
             kept::go_to(slots, slot, then, ahead.depth);
-            out::put(out, b"ok\n");
+            out::put(out, b"ok");
         }
-        Moved::Refused(why) => {
-            show::put_refused(out, why);
-            out::put(out, b"\n");
-        }
+        Moved::Refused(why) => show::put_refused(out, why),
     }
 }
 
-// Calls 41 and 42: the word is a slot. Whether the script goes on, here and below.
+// The reply to call `op` on the walk in a slot.
+fn put(
+    op: u32,
+    out: &mut Buffer,
+    records: &[u64],
+    children: &[u64],
+    text: &[u8],
+    used: &Counts,
+    slots: &mut Slots,
+    asked: Steps,
+)
+    requires { ⌜ Valid (here records children text used) × (asked .slot < 4) ⌝ }
+{
+    let slot = asked.slot;
+    let it = kept::read(slots, slot);
+    if !it.is_there {
+        out::put(out, b"no walk");
+        return;
+    }
+    match op {
+        41 => put_step(out, records, children, text, used, slots, slot, it),
+        42 => put_skip(out, slots, slot, it),
+        _ => many::put(out, records, children, text, used, slots, slot, asked.count),
+    }
+}
+
+// A slot, and of call 43 how many steps are asked for.
+struct Steps {
+    ok: bool,
+    slot: usize,
+    count: usize,
+}
+
+fn read_steps(call: Call) -> Steps
+    ensures { λ r. ⌜ r .slot < 4 ⌝ }
+{
+    if call.op != 43 {
+        let one = words::read_last_below(call, call.m, 4);
+        return Steps {
+            ok: one.ok,
+            slot: one.value,
+            count: 1,
+        };
+    }
+    let slot = words::take_below(call, call.m, 4);
+    if !slot.ok {
+        return Steps {
+            ok: false,
+            slot: 0,
+            count: 0,
+        };
+    }
+    let count = words::read_last_word(call, slot.left);
+    Steps {
+        ok: count.ok,
+        slot: slot.value,
+        count: count.value,
+    }
+}
+
+// Whether the script goes on.
 pub fn answer(
     call: Call,
     out: &mut Buffer,
@@ -84,61 +159,11 @@ pub fn answer(
 ) -> bool
     requires { ⌜ Valid (here records children text used) ⌝ }
 {
-    let word = words::take_below(call, call.m, 4);
-    if !word.ok || !words::has_words(call, word.left, 0) {
+    let asked = read_steps(call);
+    if !asked.ok {
         return false;
     }
-    let slot = word.value;
-    let it = kept::read(slots, slot);
-    if !it.is_there {
-        out::put(out, b"no walk\n");
-        return true;
-    }
-    if call.op == 42 {
-        skip(out, slots, slot, it);
-        return true;
-    }
-    let mut came = [0u32; 64];
-    let answer = step(records, children, text, used, slots, slot, it, &mut came);
-    line::put_answer(out, answer, &came);
-    true
-}
-
-// Call 43: the words are a slot and how many steps are asked for.
-pub fn answer_many(
-    call: Call,
-    out: &mut Buffer,
-    records: &[u64],
-    children: &[u64],
-    text: &[u8],
-    used: &Counts,
-    slots: &mut Slots,
-) -> bool
-    requires { ⌜ Valid (here records children text used) ⌝ }
-{
-    let word = words::take_below(call, call.m, 4);
-    if !word.ok || !words::has_words(call, word.left, 1) {
-        return false;
-    }
-    let n = words::read_word(call);
-    if !n.ok {
-        return false;
-    }
-    let it = kept::read(slots, word.value);
-    if it.is_there {
-        many::put(
-            out,
-            records,
-            children,
-            text,
-            used,
-            slots,
-            word.value,
-            n.value,
-        );
-    } else {
-        out::put(out, b"no walk");
-    }
+    put(call.op, out, records, children, text, used, slots, asked);
     out::put(out, b"\n");
     true
 }

@@ -66,10 +66,10 @@ fn by_number(call: Call) -> Asked
     ensures { λ r. ⌜ r .slot < 8 ⌝ }
 {
     let number = words::take_word(call, call.m);
-    if !number.ok || !words::has_words(call, number.left, 1) {
+    if !number.ok {
         return asked::nothing();
     }
-    let root = words::read_word(call);
+    let root = words::read_last_word(call, number.left);
     let question = Question::WhereIs(number.value);
     asked::ask(root.ok, question, root.value, 0, 0)
 }

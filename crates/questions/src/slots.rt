@@ -2,6 +2,7 @@
 // first word is 0 is empty.
 
 ghost use Prim.Native.Nat.{_^_, _<_};
+use utility_types::number;
 
 // New ones are all zeros.
 pub type Slots = [u32; 576];
@@ -11,10 +12,17 @@ pub fn narrow(x: usize) -> u32 {
     if x < 4294967296 { x as u32 } else { 0 }
 }
 
-pub fn empty(slots: &mut Slots, slot: usize)
-    requires { ⌜ slot < 8 ⌝ }
+// Word `k` of a slot's eight.
+pub fn word(slots: &Slots, slot: usize, k: usize) -> usize
+    requires { ⌜ (slot < 8) × (k < 8) ⌝ }
 {
-    slots[72 * slot] = 0;
+    number::widen(slots[72 * slot + k])
+}
+
+pub fn set_word(slots: &mut Slots, slot: usize, k: usize, value: usize)
+    requires { ⌜ (slot < 8) × (k < 8) ⌝ }
+{
+    slots[72 * slot + k] = narrow(value);
 }
 
 // A slot's path, put into a lent place.

@@ -4,7 +4,6 @@
 ghost use Prim.Native.Nat.{_<_};
 use crate::slots;
 use crate::slots::Slots;
-use utility_types::number;
 
 // The text in a slot; with no text there the rest means nothing.
 pub struct Text {
@@ -19,14 +18,13 @@ pub struct Text {
 pub fn read(slots: &Slots, slot: usize) -> Text
     requires { ⌜ slot < 8 ⌝ }
 {
-    let at = 72 * slot;
     Text {
-        is_there: slots[at] == 1,
-        root: number::widen(slots[at + 1]),
-        depth: number::widen(slots[at + 2]),
-        start: number::widen(slots[at + 3]),
-        end: number::widen(slots[at + 4]),
-        given: number::widen(slots[at + 5]),
+        is_there: slots::word(slots, slot, 0) == 1,
+        root: slots::word(slots, slot, 1),
+        depth: slots::word(slots, slot, 2),
+        start: slots::word(slots, slot, 3),
+        end: slots::word(slots, slot, 4),
+        given: slots::word(slots, slot, 5),
     }
 }
 
@@ -34,25 +32,23 @@ pub fn read(slots: &Slots, slot: usize) -> Text
 pub fn set(slots: &mut Slots, slot: usize, root: usize, depth: usize)
     requires { ⌜ slot < 8 ⌝ }
 {
-    let at = 72 * slot;
-    slots[at] = 0;
-    slots[at + 1] = slots::narrow(root);
-    slots[at + 2] = slots::narrow(depth);
+    slots::set_word(slots, slot, 0, 0);
+    slots::set_word(slots, slot, 1, root);
+    slots::set_word(slots, slot, 2, depth);
 }
 
 // Its range. Its chunks start over.
 pub fn set_range(slots: &mut Slots, slot: usize, start: usize, end: usize)
     requires { ⌜ slot < 8 ⌝ }
 {
-    let at = 72 * slot;
-    slots[at] = 1;
-    slots[at + 3] = slots::narrow(start);
-    slots[at + 4] = slots::narrow(end);
-    slots[at + 5] = 0;
+    slots::set_word(slots, slot, 0, 1);
+    slots::set_word(slots, slot, 3, start);
+    slots::set_word(slots, slot, 4, end);
+    slots::set_word(slots, slot, 5, 0);
 }
 
 pub fn set_given(slots: &mut Slots, slot: usize, given: usize)
     requires { ⌜ slot < 8 ⌝ }
 {
-    slots[72 * slot + 5] = slots::narrow(given);
+    slots::set_word(slots, slot, 5, given);
 }

@@ -11,6 +11,7 @@ use script::call::Call;
 use script::path;
 use script::words;
 use script::words::Taken;
+use utility_types::number;
 
 // Call 50: a slot and a path. The path is put into the slot, which is empty until the text is known.
 fn of_node(call: Call, slots: &mut Slots, path: &mut [u32; 64]) -> Asked
@@ -27,15 +28,8 @@ fn of_node(call: Call, slots: &mut Slots, path: &mut [u32; 64]) -> Asked
     asked::ask(of.ok, Question::Text, of.root, of.depth, slot)
 }
 
-// The slice from one offset to another of the text in slot `of`, for slot `to`, which is empty until it is known.
-fn slice_of(
-    slots: &mut Slots,
-    path: &mut [u32; 64],
-    to: usize,
-    of: usize,
-    from: usize,
-    until: usize,
-) -> Asked
+// The slice between two offsets of the text in slot `of`, for slot `to`, which is empty until it is known.
+fn slice_of(slots: &mut Slots, path: &mut [u32; 64], to: usize, of: usize, ends: [u32; 2]) -> Asked
     requires { ⌜ (to < 8) × (of < 8) ⌝ }
     ensures { λ r. ⌜ r .slot < 8 ⌝ }
 {
@@ -46,6 +40,8 @@ fn slice_of(
     if !it.is_there {
         return asked::no_text();
     }
+    let from = number::widen(ends[0]);
+    let until = number::widen(ends[1]);
     let question = Question::Slice(it.start, it.end, from, until);
     asked::ask(true, question, it.root, it.depth, to)
 }
@@ -62,22 +58,11 @@ fn slice(call: Call, slots: &mut Slots, path: &mut [u32; 64]) -> Asked
     if !of.ok || !words::has_words(call, of.left, 2) {
         return asked::nothing();
     }
-    let from = words::read_word(call);
-    if !from.ok {
+    let mut ends = [0u32; 2];
+    if !words::read_words(call, &mut ends, 2) {
         return asked::nothing();
     }
-    let until = words::read_word(call);
-    if !until.ok {
-        return asked::nothing();
-    }
-    slice_of(
-        slots,
-        path,
-        to.value + 4,
-        of.value + 4,
-        from.value,
-        until.value,
-    )
+    slice_of(slots, path, to.value + 4, of.value + 4, ends)
 }
 
 // What comes after the slot: nothing, a byte or an offset.
@@ -158,8 +143,8 @@ fn of_slots(call: Call, slots: &Slots, path: &mut [u32; 64], other: &mut [u32; 6
     if !one.ok {
         return asked::nothing();
     }
-    let two = words::take_below(call, one.left, 4);
-    if !two.ok || !words::has_words(call, two.left, 0) {
+    let two = words::read_last_below(call, one.left, 4);
+    if !two.ok {
         return asked::nothing();
     }
     equal(slots, path, other, one.value + 4, two.value + 4)

@@ -5,7 +5,6 @@ ghost use Prim.Native.Nat.{_≤_, _<_};
 use crate::slots;
 use crate::slots::Slots;
 use preorder::state::Coming;
-use utility_types::number;
 
 // The walk in a slot; with no walk there the rest is as of a new one.
 pub struct Walk {
@@ -30,7 +29,7 @@ fn no_walk() -> Walk
     }
 }
 
-fn coming_of(word: u32) -> Coming {
+fn coming_of(word: usize) -> Coming {
     match word {
         1 => Coming::First,
         2 => Coming::Enter,
@@ -39,7 +38,7 @@ fn coming_of(word: u32) -> Coming {
     }
 }
 
-fn word_of(coming: Coming) -> u32 {
+fn word_of(coming: Coming) -> usize {
     match coming {
         Coming::First => 1,
         Coming::Enter => 2,
@@ -53,18 +52,17 @@ pub fn read(slots: &Slots, slot: usize) -> Walk
     requires { ⌜ slot < 8 ⌝ }
     ensures { λ r. ⌜ r .depth ≤ 64 ⌝ }
 {
-    let at = 72 * slot;
-    let word = slots[at];
-    let depth = number::widen(slots[at + 4]);
+    let word = slots::word(slots, slot, 0);
+    let depth = slots::word(slots, slot, 4);
     if word == 0 || 64 < depth {
         return no_walk();
     }
     let coming = coming_of(word);
     Walk {
         is_there: true,
-        root: number::widen(slots[at + 1]),
-        tokens: slots[at + 2] == 1,
-        start: number::widen(slots[at + 3]),
+        root: slots::word(slots, slot, 1),
+        tokens: slots::word(slots, slot, 2) == 1,
+        start: slots::word(slots, slot, 3),
         coming,
         depth,
     }
@@ -74,18 +72,17 @@ pub fn read(slots: &Slots, slot: usize) -> Walk
 pub fn set(slots: &mut Slots, slot: usize, root: usize, tokens: bool, start: usize)
     requires { ⌜ slot < 8 ⌝ }
 {
-    let at = 72 * slot;
-    slots[at] = 0;
-    slots[at + 1] = slots::narrow(root);
-    slots[at + 2] = if tokens { 1 } else { 0 };
-    slots[at + 3] = slots::narrow(start);
+    let flag = if tokens { 1 } else { 0 };
+    slots::set_word(slots, slot, 0, 0);
+    slots::set_word(slots, slot, 1, root);
+    slots::set_word(slots, slot, 2, flag);
+    slots::set_word(slots, slot, 3, start);
 }
 
 // What comes next in it.
 pub fn go_to(slots: &mut Slots, slot: usize, coming: Coming, depth: usize)
     requires { ⌜ slot < 8 ⌝ }
 {
-    let at = 72 * slot;
-    slots[at] = word_of(coming);
-    slots[at + 4] = slots::narrow(depth);
+    slots::set_word(slots, slot, 0, word_of(coming));
+    slots::set_word(slots, slot, 4, depth);
 }

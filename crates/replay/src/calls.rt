@@ -3,8 +3,12 @@
 ghost use mathlib.Core.Path.{_≡_};
 ghost use mathlib.Core.Bool.{true, false};
 ghost use Prim.Native.Nat.{_<_};
+ghost use Rattle.green.specs.Store.{here};
+ghost use Rattle.green.specs.Valid.{Valid};
 use files::out;
 use files::out::Buffer;
+use green::Counts;
+use questions::slots::Slots;
 use script::call;
 use script::call::Call;
 use script::store;
@@ -53,6 +57,26 @@ fn next_store(call: Call, out: &mut Buffer, left: usize) -> After
     }
 }
 
+// Any other call on a store. Whether the script goes on.
+fn answer(
+    call: Call,
+    out: &mut Buffer,
+    records: &mut [u64],
+    children: &mut [u64],
+    text: &mut [u8],
+    used: &mut Counts,
+    slots: &mut Slots,
+) -> bool
+    requires { ⌜ Valid (here records children text used) ⌝ }
+    ensures { λ _. ⌜ Valid (here (records .exit) (children .exit) (text .exit) (used .exit)) ⌝ }
+{
+    let op = call.op;
+    match op {
+        2 | 3 | 10..=14 => edit_replies::answer(call, out, records, children, text, used),
+        _ => query_replies::answer(call, out, records, children, text, used, slots),
+    }
+}
+
 // The calls up to the next store, from an empty one with empty slots, from the call of that ordinal on. `words` of the
 // longest script are left.
 fn answer_all(
@@ -81,7 +105,7 @@ fn answer_all(
         if call.op == 1 {
             return next_store(call, out, left);
         }
-        if !call_replies::answer(call, out, records, children, text, &mut used, &mut slots) {
+        if !answer(call, out, records, children, text, &mut used, &mut slots) {
             return over();
         }
     }

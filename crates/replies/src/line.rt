@@ -87,15 +87,22 @@ pub fn put_reply(out: &mut Buffer, op: u32, reply: Reply, path: &[u32; 64], othe
     out::put(out, b"\n");
 }
 
+pub fn put_event(out: &mut Buffer, is_enter: bool, it: SyntaxElement, path: &[u32; 64]) {
+    if is_enter {
+        put_element(out, b"enter ", it, path);
+    } else {
+        put_element(out, b"leave ", it, path);
+    }
+}
+
 // What a walk gives, by the path of what came.
 pub fn put_answer(out: &mut Buffer, answer: Answer, path: &[u32; 64]) {
     match answer {
         Answer::Event(event) => match event {
-            WalkEvent::Enter(it) => put_element(out, b"enter ", it, path),
-            WalkEvent::Leave(it) => put_element(out, b"leave ", it, path),
+            WalkEvent::Enter(it) => put_event(out, true, it, path),
+            WalkEvent::Leave(it) => put_event(out, false, it, path),
         },
         Answer::Ended => out::put(out, b"ended"),
         Answer::Refused(why) => put_refused(out, why),
     }
-    out::put(out, b"\n");
 }

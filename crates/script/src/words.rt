@@ -111,6 +111,32 @@ pub fn has_words(call: Call, m: usize, needed: usize) -> bool {
     misfit(call)
 }
 
+// The last word of a call with `m` words left.
+pub fn read_last_word(call: Call, m: usize) -> Word
+    ensures { λ r. ⌜ r .value < 2 ^ 32 ⌝ }
+{
+    if !has_words(call, m, 1) {
+        return Word {
+            ok: false,
+            value: 0,
+        };
+    }
+    read_word(call)
+}
+
+// The same of a word that must be less than `below`.
+pub fn read_last_below(call: Call, m: usize, below: usize) -> Word
+    requires { ⌜ 0 < below ⌝ }
+    ensures { λ r. ⌜ r .value < below ⌝ }
+{
+    let word = take_below(call, m, below);
+    let ok = word.ok && has_words(call, word.left, 0);
+    Word {
+        ok,
+        value: word.value,
+    }
+}
+
 // Words that nothing wants. Whether they are there.
 pub fn pass_over(call: Call, m: usize) -> bool {
     let mut left = m;
