@@ -4,12 +4,22 @@ use crate::{
     ask,
     ffi::{Path, ENTER},
     store::Store,
-    trees::{Random, Sheet},
+    trees::{self, Random, Sheet},
 };
 use rowan::{
     cursor::{SyntaxElement, SyntaxNode, SyntaxToken},
     NodeCache, NodeOrToken,
 };
+
+/// The trees that every row is timed on.
+pub fn sheets() -> [(&'static str, Sheet); 4] {
+    [
+        ("survey", trees::survey(4_096)),
+        ("wide", trees::wide(4_000)),
+        ("chain", trees::chain(60)),
+        ("random", trees::random(3_000)),
+    ]
+}
 
 /// An element of the tree on both sides: rowan's handle, and a path and a number.
 pub struct Place {

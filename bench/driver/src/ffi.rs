@@ -64,13 +64,35 @@ reading! {
 
 extern "C" {
     pub fn notes_run(
-        records: *mut u64, records_len: usize, children: *mut u64, children_len: usize, text: *mut u8, text_len: usize,
-        used: &mut [usize; 8], yields: &mut [u32; 4096], sheet: *const u8, sheet_len: usize, source: *const u8,
-        source_len: usize, words: &mut Words,
+        records: *mut u64,
+        records_len: usize,
+        children: *mut u64,
+        children_len: usize,
+        text: *mut u8,
+        text_len: usize,
+        used: &mut [usize; 8],
+        yields: &mut [u32; 4096],
+        sheet: *const u8,
+        sheet_len: usize,
+        source: *const u8,
+        source_len: usize,
+        words: &mut Words,
     ) -> usize;
     pub fn notes_edit(
-        records: *mut u64, records_len: usize, children: *mut u64, children_len: usize, text: *const u8, text_len: usize,
-        used: &mut [usize; 8], code: usize, number: usize, from: usize, to: usize, news: *const u32, news_len: usize,
-        path: &Path, words: &mut Words,
+        records: *mut u64,
+        records_len: usize,
+        children: *mut u64,
+        children_len: usize,
+        text: *const u8,
+        text_len: usize,
+        used: &mut [usize; 8],
+        code: usize,
+        number: usize,
+        from: usize,
+        to: usize,
+        news: *const u32,
+        news_len: usize,
+        path: &Path,
+        words: &mut Words,
     ) -> usize;
 }

@@ -47,9 +47,19 @@ impl Store {
         let mut words = [0; 8];
         let outcome = unsafe {
             ffi::notes_run(
-                self.records.as_mut_ptr(), self.records.len(), self.children.as_mut_ptr(), self.children.len(),
-                self.text.as_mut_ptr(), self.text.len(), &mut self.used, &mut self.yields,
-                sheet.events.as_ptr(), sheet.events.len(), sheet.text.as_ptr(), sheet.text.len(), &mut words,
+                self.records.as_mut_ptr(),
+                self.records.len(),
+                self.children.as_mut_ptr(),
+                self.children.len(),
+                self.text.as_mut_ptr(),
+                self.text.len(),
+                &mut self.used,
+                &mut self.yields,
+                sheet.events.as_ptr(),
+                sheet.events.len(),
+                sheet.text.as_ptr(),
+                sheet.text.len(),
+                &mut words,
             )
         };
         assert_eq!(outcome, ffi::NUMBER, "the sheet is refused");
@@ -61,9 +71,21 @@ impl Store {
         let mut words = [0; 8];
         let outcome = unsafe {
             ffi::notes_edit(
-                self.records.as_mut_ptr(), self.records.len(), self.children.as_mut_ptr(), self.children.len(),
-                self.text.as_ptr(), self.text.len(), &mut self.used, code, number, from, to,
-                std::ptr::null(), 0, path, &mut words,
+                self.records.as_mut_ptr(),
+                self.records.len(),
+                self.children.as_mut_ptr(),
+                self.children.len(),
+                self.text.as_ptr(),
+                self.text.len(),
+                &mut self.used,
+                code,
+                number,
+                from,
+                to,
+                std::ptr::null(),
+                0,
+                path,
+                &mut words,
             )
         };
         assert_eq!(outcome, ffi::NUMBER, "the edit is refused");

@@ -9,6 +9,7 @@ enum Event {
 }
 
 /// A sheet's bytes and its text.
+#[derive(Clone)]
 pub struct Sheet {
     pub events: Vec<u8>,
     pub text: Vec<u8>,
@@ -34,11 +35,7 @@ impl Sheet {
         }
         let head = [events.len() as u32, text.len() as u32];
         let numbers = head.iter().chain(&words).chain(&operands);
-        Sheet {
-            events: numbers.flat_map(|it| it.to_le_bytes()).collect(),
-            text,
-            count: events.len(),
-        }
+        Sheet { events: numbers.flat_map(|it| it.to_le_bytes()).collect(), text, count: events.len() }
     }
 
     fn number(&self, at: usize) -> u32 {

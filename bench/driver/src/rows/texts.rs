@@ -38,8 +38,18 @@ fn our_chunks(case: &Case) -> u64 {
     let mut total = 0;
     let path = [0; 64];
     let mut next = || {
-        let outcome =
-            ask!(&case.store, notes_next_chunk, case.root, &path, 0, 0, case.length, &mut state, &mut place, &mut words);
+        let outcome = ask!(
+            &case.store,
+            notes_next_chunk,
+            case.root,
+            &path,
+            0,
+            0,
+            case.length,
+            &mut state,
+            &mut place,
+            &mut words
+        );
         (outcome == ffi::CHUNK).then(|| &case.store.text[words[0]..words[1]])
     };
     while let Some(chunk) = next() {
@@ -51,8 +61,7 @@ fn our_chunks(case: &Case) -> u64 {
 /// A question about the root's text.
 fn query(case: &Case, code: usize, operands: &ffi::Words) -> (usize, usize) {
     let mut words = [0; 8];
-    let outcome =
-        ask!(&case.store, notes_query, case.root, &mut [0; 64], &mut [0; 64], 0, code, operands, &mut words);
+    let outcome = ask!(&case.store, notes_query, case.root, &mut [0; 64], &mut [0; 64], 0, code, operands, &mut words);
     (outcome, words[0])
 }
 

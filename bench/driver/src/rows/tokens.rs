@@ -35,10 +35,22 @@ pub fn rows(case: &Case, bench: &mut Bench) {
     let name = case.name;
     let tokens = case.tokens().count();
     if bench.wants("next_token") {
-        bench.time(name, "next_token", tokens, |_| forward(case), || follow!(case, notes_first_token, notes_next_token));
+        bench.time(
+            name,
+            "next_token",
+            tokens,
+            |_| forward(case),
+            || follow!(case, notes_first_token, notes_next_token),
+        );
     }
     if bench.wants("prev_token") {
-        bench.time(name, "prev_token", tokens, |_| backward(case), || follow!(case, notes_last_token, notes_prev_token));
+        bench.time(
+            name,
+            "prev_token",
+            tokens,
+            |_| backward(case),
+            || follow!(case, notes_last_token, notes_prev_token),
+        );
     }
     let nodes: Vec<_> = case.nodes().filter_map(|it| it.node()).collect();
     let mut paths: Vec<_> = case.nodes().map(|it| (it.path, it.depth)).collect();
