@@ -1,5 +1,5 @@
 -- The elements of a list that lie ahead in a direction, and the nearest of them. Assumes nothing.
-use Prim.Native.Nat.{ℕ, zero, suc, _-_, _≤_, _<_}
+use Prim.Native.Nat.{ℕ, zero, suc, _+_, _-_, _≤_, _<_}
 use native.Mathlib.Omega.{arith}
 use mathlib.Core.Path.{_≡_, refl, sym, ap, _∙_}
 use mathlib.Core.List.{List, [], _∷_, _++_, append-nil, head?, getLast?}
@@ -8,8 +8,8 @@ use mathlib.Core.Option.{none, some, Option·none-ne-some}
 use lib.ListN.{length, take, drop, getElem?, drop-of-length-le}
 use lib.Seq.{take-all}
 use Rattle.definitions.specs.Prelude.{filter}
-use Rattle.definitions.specs.Tree.{isNode}
-use Rattle.definitions.specs.Element.{Element}
+use Rattle.definitions.specs.Tree.{Tree, token, node, Forest, nil, cons, isNode, childrenOf, textLen, height, heights}
+use Rattle.definitions.specs.Element.{Element, elements, children}
 use Rattle.definitions.specs.Cursor.{offered}
 use Rattle.utility_types.specs.declared.Direction.{Direction}
 use Rattle.utility_types.specs.declared.Direction.the-variants.{Next, Prev}
@@ -106,3 +106,42 @@ nearest-none Prev = refl
 pub all-ahead : (d : Direction) (xs : List Element) {n : ℕ} → n ≡ length xs → ahead d xs n ≡ xs
 all-ahead Next xs {n} e = let z : length xs - n ≡ 0 = omega arith in ap (λ j. drop j xs) z
 all-ahead Prev xs {n} e = take-all n xs (omega arith)
+
+-- a node of height 1 has tokens only
+token-height : (t : Tree) → height t ≡ 0 → isNode t ≡ false
+unfolding height isNode
+token-height (token k b) h = refl
+token-height (node k f) h = absurd (omega arith)
+
+no-node-in : (p : List ℕ) (i o : ℕ) (f : Forest) → heights f ≡ 0 → offered false (elements p i o f) ≡ []
+unfolding offered filter elements heights
+no-node-in p i o nil h = refl
+no-node-in p i o (cons t f) h = rw (token-height t (omega arith)) (no-node-in p (i + 1) (o + textLen t) f (omega arith))
+
+pub no-node-child : (e : Element) → height (e .tree) ≡ 1 → offered false (children e) ≡ []
+unfolding children childrenOf height
+no-node-child e h = go (e .tree) h
+  where
+    go : (t : Tree) → height t ≡ 1 → offered false (elements (e .path) 0 (e .start) (childrenOf t)) ≡ []
+    go (token k b) h = absurd (omega arith)
+    go (node k f) h = no-node-in (e .path) 0 (e .start) f (omega arith)
+
+rest-none : (b : Bool) (x : Element) (ys : List Element) → cond b (x ∷ ys) ys ≡ [] → (b ≡ false) × (ys ≡ [])
+rest-none true x ys e = absurd (let z = ap length e in omega arith)
+rest-none false x ys e = (refl, e)
+
+none-dropped : (k : ℕ) (xs : List Element) → offered false xs ≡ [] → offered false (drop k xs) ≡ []
+unfolding offered filter
+none-dropped zero xs e = e
+none-dropped (suc k) [] e = refl
+none-dropped (suc k) (x ∷ xs) e = none-dropped k xs (rest-none (isNode (x .tree)) x (filter (λ y. isNode (y .tree)) xs) e .1)
+
+none-taken : (k : ℕ) (xs : List Element) → offered false xs ≡ [] → offered false (take k xs) ≡ []
+unfolding offered filter
+none-taken zero xs e = refl
+none-taken (suc k) [] e = refl
+none-taken (suc k) (x ∷ xs) e = let z = rest-none (isNode (x .tree)) x (filter (λ y. isNode (y .tree)) xs) e in rw (z .0) (none-taken k xs (z .1))
+
+pub no-node-ahead : (d : Direction) (xs : List Element) (k : ℕ) → offered false xs ≡ [] → offered false (ahead d xs k) ≡ []
+no-node-ahead Next xs k e = none-dropped (length xs - k) xs e
+no-node-ahead Prev xs k e = none-taken k xs e

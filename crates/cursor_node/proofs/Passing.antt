@@ -6,7 +6,7 @@ use mathlib.Core.List.{List, head?}
 use mathlib.Core.Bool.{Bool, true, false}
 use lib.ListN.{length, take, drop, getElem?}
 use Rattle.definitions.specs.Prelude.{filter}
-use Rattle.definitions.specs.Tree.{isNode}
+use Rattle.definitions.specs.Tree.{isNode, height}
 use Rattle.definitions.specs.Entry.{treeAt}
 use Rattle.definitions.specs.Element.{Element, children}
 use Rattle.definitions.specs.Cursor.{offered}
@@ -22,7 +22,7 @@ use Rattle.cursor.specs.Answers.{Tells}
 use Rattle.cursor.proofs.Positions.{children-count}
 use Rattle.cursor.proofs.Telling.{none-told, told-as}
 use Rattle.cursor_node.specs.Children.{ahead, nearest, nearestIndex, PassesTo, FirstFrom}
-use Rattle.cursor_node.proofs.Nearest.{head-drop, token-passed, node-nearest, nearest-at, none-ahead, nearest-none}
+use Rattle.cursor_node.proofs.Nearest.{head-drop, token-passed, node-nearest, nearest-at, none-ahead, nearest-none, no-node-child, no-node-ahead}
 
 -- of `left` children those before the last k are tokens
 pub record Passed (s : Store) (c : Cursor) (d : Direction) (left k : ℕ) : Type 0 where
@@ -36,6 +36,14 @@ none-passed = record { within = omega arith; same = λ p. refl }
 pub all-offered : {s : Store} {c : Cursor} {d : Direction} {tokens : Bool} {left : ℕ} → tokens ≡ true → PassesTo s c d tokens left left
 unfolding offered
 all-offered t = record { nearest = λ p. rw t refl }
+
+-- among tokens only there is no node
+pub only-tokens : {s : Store} {c : Cursor} {d : Direction} {tokens : Bool} {left n : ℕ} → tokens ≡ false → n ≡ height (treeAt (entries s) (c .number)) → n ≡ 1 → PassesTo s c d tokens left 0
+only-tokens {s} {c} {d} {left = left} f e h = record {
+  nearest = λ p.
+      let xs = children (at (entries s) p c) in
+      rw f (ap (nearest d) (no-node-ahead d xs left (no-node-child (at (entries s) p c) (sym e ∙ h)) ∙ sym (none-ahead d xs)));
+}
 
 module _ {s : Store} {c : Cursor} {d : Direction} {left k : ℕ} (m : Passed s c d left k) where
   module _ (n : Inner s c) (w : left ≤ childCount (entries s) c) (pos : 0 < k) {t i : ℕ} (et : t ≡ childCount (entries s) c) (ei : i ≡ nearestIndex d t k) {r : Cursor} (a : ChildAt s c i r) where

@@ -20,11 +20,18 @@ pub struct Read {
     pub count: usize,
 }
 
+// Whether an open file can be read: a folder cannot, and a read of no bytes says so.
+fn is_readable(fd: i32) -> bool {
+    let mut none = [0u8; 1];
+    0 <= libc::read(fd, &mut none[..0])
+}
+
 // A descriptor, or a negative number.
 pub fn open(path: &[u8]) -> i32 {
     let fd = os::open_read(path);
-    if fd < 0 {
+    if fd < 0 || !is_readable(fd) {
         os::fail(path);
+        return -1;
     }
     fd
 }
@@ -35,7 +42,7 @@ pub fn read_part(fd: i32, path: &[u8], buf: &mut [u8]) -> Read
 {
     let n = io::read_full(fd, buf);
     let mut probe = [0u8; 1];
-    // fewer bytes came: the file ends here, if a further read says so; a folder, say, cannot be read
+    // fewer bytes came: the file ends here, if a further read says so
     if n < buf.len() && libc::read(fd, &mut probe) != 0 {
         os::fail(path);
         return Read {

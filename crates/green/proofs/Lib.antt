@@ -1,6 +1,5 @@
 pub mod Lists
 pub mod Written
-pub mod Offsets
 pub mod Reading
 pub mod Known
 pub mod Untouched

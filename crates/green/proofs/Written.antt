@@ -4,9 +4,9 @@ use native.Mathlib.Omega.{arith}
 use mathlib.Core.Path.{_≡_, refl, ap, _∙_}
 use mathlib.Core.List.{List, [], _∷_, _++_, append-assoc, flatMap}
 use lib.ListN.{length, getD, length-append, List·getD-append}
-use Rattle.definitions.specs.Tree.{Tree, token, node, Forest, nil, cons, childrenOf, textLen}
+use Rattle.definitions.specs.Tree.{Tree, token, node, Forest, nil, cons, childrenOf, textLen, offsetOf}
 use Rattle.definitions.specs.Entry.{Entry, absent, treesAt, childPlaces, textBytes, ownBytes}
-use Rattle.green.specs.Layout.{childWords, offsetOf, ownText, allRecords, allChildren, allText}
+use Rattle.green.specs.Layout.{childWords, ownText, allRecords, allChildren, allText}
 use Rattle.green.specs.Store.{numbers}
 use Rattle.green.specs.Valid.{AllBelow}
 use Rattle.green.proofs.Lists.{flatMap-append}

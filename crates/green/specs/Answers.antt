@@ -4,7 +4,7 @@ use mathlib.Core.List.{List}
 use mathlib.Core.Bool.{Bool, cond}
 use lib.ListN.{length, getD}
 use Rattle.definitions.specs.Prelude.{Result, ok, refused}
-use Rattle.definitions.specs.Tree.{Tree, kind, isNode, childrenOf, count, textLen, size, height}
+use Rattle.definitions.specs.Tree.{Tree, kind, isNode, childrenOf, count, textLen, size, height, offsetOf}
 use Rattle.definitions.specs.Hash.{hash}
 use Rattle.definitions.specs.Entry.{Entry, entryAt, treeAt}
 use Rattle.definitions.specs.Refusal.{isAbsent, isNoNode, isRangeOutside}
@@ -19,7 +19,6 @@ use Rattle.green.specs.declared.node.ChildAt.{ChildAt}
 use Rattle.green.specs.declared.node.ChildAt.the-variants.{Found}
 use Rattle.green.specs.declared.node.ChildAt.the-variants as child
 use Rattle.green.specs.declared.node.Child.{Child}
-use Rattle.green.specs.Layout.{offsetOf}
 
 -- an element as a number names it
 pub record Named : Type 0 where

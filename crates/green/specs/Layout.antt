@@ -1,5 +1,5 @@
 -- What the words of a store are, entry by entry: what a list of entries is written as.
-use Prim.Native.Nat.{ℕ, zero, suc, _+_, _*_, _^_}
+use Prim.Native.Nat.{ℕ, _+_, _*_, _^_}
 use mathlib.Core.List.{List, [], _∷_, _++_, flatMap}
 use mathlib.Core.Bool.{cond}
 use lib.ListN.{length, take}
@@ -41,12 +41,6 @@ unfoldable pub childWords : List ℕ → Forest → ℕ → List ℕ
 childWords [] f o = []
 childWords (n ∷ ns) nil o = (n + 2 ^ 32 * o) ∷ childWords ns nil o
 childWords (n ∷ ns) (cons t f) o = (n + 2 ^ 32 * o) ∷ childWords ns f (o + textLen t)
-
--- the offset of child k in its node: the lengths of the children before it
-unfoldable pub offsetOf : Forest → ℕ → ℕ
-offsetOf nil k = 0
-offsetOf (cons t f) zero = 0
-offsetOf (cons t f) (suc k) = textLen t + offsetOf f k
 
 -- a token's bytes
 unfoldable pub ownText : Tree → List ℕ

@@ -1,4 +1,5 @@
 pub mod SameToken
+pub mod Seeking
 pub mod Events
 pub mod TokenEvents
 pub mod SameNode

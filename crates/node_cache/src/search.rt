@@ -9,7 +9,7 @@ ghost use Rattle.definitions.specs.Entry.{entryAt, treeAt, treesAt};
 ghost use Rattle.definitions.specs.NodeCache.{matches, reuse};
 ghost use Rattle.green.specs.Store.{here, entered, entries};
 ghost use Rattle.green.specs.Valid.{AllEvents, Valid, Known};
-ghost use Rattle.node_cache.specs.Search.{found, HashOf, NodeSought};
+ghost use Rattle.node_cache.specs.Search.{found, HashOf, NodeSought, FirstAlike};
 use crate::hash::Hashed;
 use green::Counts;
 use green::node;
@@ -37,6 +37,30 @@ fn same_bytes(a: &[u8], b: &[u8]) -> bool
         i += 1;
     }
     true
+}
+
+// The first record from `from` on that has this hash; the number of records, or `from` if that is more, if there is none. It is what a search spends its time in,
+// and a loop of its own compiles to a load and a comparison a record.
+fn next_alike(
+    records: &[u64],
+    children: &[u64],
+    text: &[u8],
+    used: &Counts,
+    hash: u64,
+    from: usize,
+) -> usize
+    requires { ⌜ Valid (here records children text used) ⌝ }
+    ensures { λ r. ⌜ FirstAlike (entries (entered records children text used)) hash from r ⌝ }
+{
+    let n = used[0];
+    let mut i = from;
+    while i < n {
+        if record::hash_of(records, children, text, used, i) == hash {
+            return i;
+        }
+        i += 1;
+    }
+    i
 }
 
 // Whether record `i` is a token of this kind and these bytes.
@@ -80,12 +104,12 @@ pub fn find_token(
     ensures { λ r. ⌜ found r ≡ reuse (entries (entered records children text used)) (token (kind .0) (now (src .entry))) ⌝ }
 {
     let n = used[0];
-    let mut i = 0;
+    let mut i = next_alike(records, children, text, used, hash, 0);
     while i < n {
         if is_token(records, children, text, used, i, kind, src, hash) {
             return Search::Found(i);
         }
-        i += 1;
+        i = next_alike(records, children, text, used, hash, i + 1);
     }
     Search::Missing
 }
@@ -163,12 +187,12 @@ pub fn find_node(
     }
     let hash = hashed.hash;
     let n = used[0];
-    let mut i = 0;
+    let mut i = next_alike(records, children, text, used, hash, 0);
     while i < n {
         if is_node(records, children, text, used, i, kind, numbers, hash) {
             return Search::Found(i);
         }
-        i += 1;
+        i = next_alike(records, children, text, used, hash, i + 1);
     }
     Search::Missing
 }

@@ -24,7 +24,7 @@ refused-same e = cc
 
 -- but for the root, a walk is told by what it spells and by its path
 pub record SameState (w w′ : Preorder) : Type 0 where
-  pub tokens : w .tokens ≡ w′ .tokens
+  pub tokens : w .«with_tokens» ≡ w′ .«with_tokens»
   pub start : w .start ≡ w′ .start
   pub depth : w .depth ≡ w′ .depth
   pub coming : w .coming ≡ w′ .coming

@@ -4,6 +4,7 @@ ghost use mathlib.Core.Path.{_≡_};
 ghost use mathlib.Core.Bool.{true, false};
 ghost use Prim.Native.Nat.{_<_};
 use files::out;
+use files::out::Buffer;
 use script::call;
 use script::call::Call;
 use script::store;
@@ -32,7 +33,7 @@ fn over() -> After
 }
 
 // Call 1: the store that comes next.
-fn next_store(call: Call, out: &mut [u8], end: &mut usize, left: usize) -> After
+fn next_store(call: Call, out: &mut Buffer, left: usize) -> After
     ensures { λ r. ⌜ (r .more ≡ true → r .left ≡ left) ⌝ }
 {
     if !words::has_words(call, call.m, 3) {
@@ -42,7 +43,7 @@ fn next_store(call: Call, out: &mut [u8], end: &mut usize, left: usize) -> After
     if !asked.ok {
         return over();
     }
-    out::put(out, end, b"ok\n");
+    out::put(out, b"ok\n");
     let store = asked.store;
     After {
         more: true,
@@ -56,8 +57,7 @@ fn next_store(call: Call, out: &mut [u8], end: &mut usize, left: usize) -> After
 // longest script are left.
 fn answer_all(
     fd: i32,
-    out: &mut [u8],
-    end: &mut usize,
+    out: &mut Buffer,
     records: &mut [u64],
     children: &mut [u64],
     text: &mut [u8],
@@ -67,8 +67,7 @@ fn answer_all(
     ensures { λ r. ⌜ (r .more ≡ true → r .left < words) ⌝ }
 {
     let mut used = [0usize; 8];
-    let mut slots = [0usize; 64];
-    let mut paths = [0u32; 512];
+    let mut slots = [0u32; 576];
     let mut ordinal = first;
     let mut left = words;
     loop {
@@ -80,19 +79,9 @@ fn answer_all(
         ordinal = wrapping_add_usize(ordinal, 1);
         let call = head.call;
         if call.op == 1 {
-            return next_store(call, out, end, left);
+            return next_store(call, out, left);
         }
-        if !call_replies::answer(
-            call,
-            out,
-            end,
-            records,
-            children,
-            text,
-            &mut used,
-            &mut slots,
-            &mut paths,
-        ) {
+        if !call_replies::answer(call, out, records, children, text, &mut used, &mut slots) {
             return over();
         }
     }
@@ -101,8 +90,7 @@ fn answer_all(
 // The same in as many of the places as the script asks for and there are.
 pub fn on_store(
     fd: i32,
-    out: &mut [u8],
-    end: &mut usize,
+    out: &mut Buffer,
     records: &mut [u64],
     children: &mut [u64],
     text: &mut [u8],
@@ -118,7 +106,6 @@ pub fn on_store(
     answer_all(
         fd,
         out,
-        end,
         &mut records[..8 * r],
         &mut children[..c],
         &mut text[..t],

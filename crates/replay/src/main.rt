@@ -4,24 +4,18 @@
 mod calls;
 
 use files::out;
+use files::out::Buffer;
 use libc::STDERR_FILENO;
 use script::call;
 use script::store;
 
 // The script's stores in turn.
-fn stores(
-    fd: i32,
-    out: &mut [u8],
-    end: &mut usize,
-    records: &mut [u64],
-    children: &mut [u64],
-    text: &mut [u8],
-) {
+fn stores(fd: i32, out: &mut Buffer, records: &mut [u64], children: &mut [u64], text: &mut [u8]) {
     let mut ordinal: usize = 0;
     let mut left = call::MOST_WORDS;
     let mut asked = store::first_store();
     loop {
-        let after = calls::on_store(fd, out, end, records, children, text, asked, ordinal, left);
+        let after = calls::on_store(fd, out, records, children, text, asked, ordinal, left);
         if !after.more {
             return;
         }
@@ -38,11 +32,9 @@ fn replay(fd: i32) {
     let mut records = [0u64; 65600];
     let mut children = [0u64; 16400];
     let mut text = [0u8; 65600];
-    let mut space = [0u8; 8192];
-    let out: &mut [u8] = &mut space;
-    let mut end: usize = 0;
-    stores(fd, out, &mut end, &mut records, &mut children, &mut text);
-    out::flush(out, &mut end);
+    let mut out = [0u8; 8192];
+    stores(fd, &mut out, &mut records, &mut children, &mut text);
+    out::flush(&mut out);
 }
 
 fn replay_file(name: &[u8]) {

@@ -3,6 +3,7 @@
 ghost use Prim.Native.Nat.{_<_};
 use crate::show::put_number;
 use files::out;
+use files::out::Buffer;
 
 fn digit(x: u8) -> u8
     requires { ⌜ x < 16 ⌝ }
@@ -10,29 +11,24 @@ fn digit(x: u8) -> u8
     if x < 10 { 48 + x } else { 87 + x }
 }
 
-fn put_byte(out: &mut [u8], end: &mut usize, byte: u8) {
+fn put_byte(out: &mut Buffer, byte: u8) {
     let pair = [digit(byte / 16), digit(byte % 16)];
-    out::put(out, end, &pair);
+    out::put(out, &pair);
 }
 
-fn put_digits(out: &mut [u8], end: &mut usize, bytes: &[u8]) {
+fn put_digits(out: &mut Buffer, bytes: &[u8]) {
     let mut i = 0;
     while i < bytes.len() {
-        put_byte(out, end, bytes[i]);
+        put_byte(out, bytes[i]);
         i += 1;
     }
 }
 
-fn put_word(out: &mut [u8], end: &mut usize, bytes: &[u8]) {
+// Bytes at the end of a line.
+pub fn put_bytes(out: &mut Buffer, bytes: &[u8]) {
+    put_number(out, bytes.len());
     if 0 < bytes.len() {
-        out::put(out, end, b" ");
-        put_digits(out, end, bytes);
+        out::put(out, b" ");
+        put_digits(out, bytes);
     }
-}
-
-// Ends a line with bytes.
-pub fn put_bytes(out: &mut [u8], end: &mut usize, bytes: &[u8]) {
-    put_number(out, end, bytes.len());
-    put_word(out, end, bytes);
-    out::put(out, end, b"\n");
 }

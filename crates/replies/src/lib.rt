@@ -1,9 +1,7 @@
-// What `replay` needs for the reply to any call: `show` has the lines of replies, `bytes` a line's end in hexadecimal digits,
-// `slots` the places that outlive a call; `elements` and `record` answer calls 60, 61 and 64. Every function puts its reply
-// into the output buffer of `files::out`.
+// The lines of replies of `replay`, put into the output buffer of `files::out`. Nothing here is lent the store: `show` has what
+// runs, edits and records come to, `line` what names elements, `bytes` a line's end in hexadecimal digits. What a program
+// prints is compared with stored output and not proved.
 
 pub mod bytes;
-pub mod elements;
-pub mod record;
+pub mod line;
 pub mod show;
-pub mod slots;

@@ -82,6 +82,8 @@ pub enum Reply {
     Between(Element, Element),
     Enter(Element),
     Leave(Element),
+    /// The replies of many steps of a walk.
+    Many(Vec<Reply>),
     Found(Vec<u32>),
     Length(u32),
     Chunk(Vec<u8>),
@@ -100,6 +102,18 @@ impl Reply {
         } else {
             Reply::No
         }
+    }
+
+    /// The replies of at most `count` steps, up to and with the first that is no event.
+    pub fn many(count: u32, mut step: impl FnMut() -> Reply) -> Reply {
+        let mut replies = Vec::new();
+        for _ in 0..count {
+            replies.push(step());
+            if !matches!(replies.last(), Some(Reply::Enter(_) | Reply::Leave(_))) {
+                break;
+            }
+        }
+        Reply::Many(replies)
     }
 
     /// The refusal, if the reply is one.
@@ -198,6 +212,7 @@ impl Display for Reply {
             Reply::Between(left, right) => write!(f, "{left} {right}"),
             Reply::Enter(element) => write!(f, "enter {element}"),
             Reply::Leave(element) => write!(f, "leave {element}"),
+            Reply::Many(replies) => write!(f, "{}", Many(replies)),
             Reply::Found(indexes) => write!(f, "found {}", Indexes(indexes)),
             Reply::Length(length) => write!(f, "length {length}"),
             Reply::Chunk(bytes) => write!(f, "chunk {}", Bytes(bytes)),
@@ -213,6 +228,19 @@ impl Display for Reply {
                 write!(f, "node {kind} {maker} {}", Indexes(children))
             }
         }
+    }
+}
+
+/// Replies on one line.
+struct Many<'a>(&'a [Reply]);
+
+impl Display for Many<'_> {
+    fn fmt(&self, f: &mut fmt::Formatter<'_>) -> fmt::Result {
+        for (place, reply) in self.0.iter().enumerate() {
+            let between = if place == 0 { "" } else { " ; " };
+            write!(f, "{between}{reply}")?;
+        }
+        Ok(())
     }
 }
 

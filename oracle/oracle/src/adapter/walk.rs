@@ -35,6 +35,10 @@ impl Adapter {
                 Some(walk) => walk.next(),
                 None => Reply::NoWalk,
             },
+            Call::WalkMany { slot, count } => match &mut self.walks[*slot] {
+                Some(walk) => Reply::many(*count, || walk.next()),
+                None => Reply::NoWalk,
+            },
             Call::WalkSkip { slot } => match &mut self.walks[*slot] {
                 Some(_) if is_outside_domain(model) => model.clone(),
                 Some(walk) => walk.skip(),

@@ -75,7 +75,13 @@ impl Writer {
             if self.random.chance(skips) {
                 self.put(Call::WalkSkip { slot });
             }
-            let reply = self.put(Call::WalkNext { slot });
+            let reply = match self.random.chance(20) {
+                true => {
+                    let count = *self.random.pick(&[0, 1, 2, 5, 63, 64, 65, 130]);
+                    self.put(Call::WalkMany { slot, count })
+                }
+                false => self.put(Call::WalkNext { slot }),
+            };
             if matches!(reply, Reply::NoWalk | Reply::Ended) && self.random.chance(60) {
                 break;
             }

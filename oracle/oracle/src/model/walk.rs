@@ -34,6 +34,10 @@ impl Model {
                 Some(walk) => walk.next(&self.store),
                 None => Reply::NoWalk,
             },
+            Call::WalkMany { slot, count } => match &mut self.walks[*slot] {
+                Some(walk) => Reply::many(*count, || walk.next(&self.store)),
+                None => Reply::NoWalk,
+            },
             Call::WalkSkip { slot } => match &mut self.walks[*slot] {
                 Some(walk) => walk.skip(),
                 None => Reply::NoWalk,

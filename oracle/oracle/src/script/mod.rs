@@ -97,7 +97,8 @@ impl Call {
             | Call::CoveringElement { .. } | Call::SameElement { .. } | Call::WhereIs { .. } => {
                 Group::Query
             }
-            Call::WalkBegin { .. } | Call::WalkNext { .. } | Call::WalkSkip { .. } => Group::Walk,
+            Call::WalkBegin { .. } | Call::WalkNext { .. } | Call::WalkSkip { .. }
+            | Call::WalkMany { .. } => Group::Walk,
             Call::TextOf { .. } | Call::TextSlice { .. } | Call::TextLength { .. }
             | Call::ChunkBegin { .. } | Call::ChunkNext { .. } | Call::TextContains { .. }
             | Call::TextFind { .. } | Call::TextCharAt { .. } | Call::TextEqual { .. } => {
@@ -129,6 +130,8 @@ pub enum Call {
     WalkBegin { slot: usize, tokens: bool, path: Path },
     WalkNext { slot: usize },
     WalkSkip { slot: usize },
+    /// As many calls of `WalkNext`, up to the walk's end.
+    WalkMany { slot: usize, count: u32 },
     TextOf { slot: usize, path: Path },
     TextSlice { to: usize, from: usize, start: u32, end: u32 },
     TextLength { slot: usize },

@@ -73,6 +73,7 @@ fn read_arguments(op: u32, w: &mut Words) -> Result<Call, String> {
         40 => Call::WalkBegin { slot: w.slot()?, tokens: w.flag()?, path: w.path()? },
         41 => Call::WalkNext { slot: w.slot()? },
         42 => Call::WalkSkip { slot: w.slot()? },
+        43 => Call::WalkMany { slot: w.slot()?, count: w.word()? },
         50 => Call::TextOf { slot: w.slot()?, path: w.path()? },
         51 => Call::TextSlice { to: w.slot()?, from: w.slot()?, start: w.word()?, end: w.word()? },
         52 => Call::TextLength { slot: w.slot()? },

@@ -97,6 +97,7 @@ impl Call {
             }
             Call::WalkNext { slot } => write!(f, "walk_next slot {slot}"),
             Call::WalkSkip { slot } => write!(f, "walk_skip slot {slot}"),
+            Call::WalkMany { slot, count } => write!(f, "walk_many slot {slot} count {count}"),
             Call::TextOf { slot, path } => write!(f, "text_of slot {slot} {path}"),
             Call::TextSlice { to, from, start, end } => {
                 write!(f, "text_slice to slot {to} from slot {from} range {start}..{end}")

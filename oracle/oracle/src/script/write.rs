@@ -44,6 +44,7 @@ fn words(call: &Call) -> (u32, Arguments) {
         Call::WalkBegin { slot, tokens, path } => (40, a.slot(*slot).word((*tokens).into()).path(path)),
         Call::WalkNext { slot } => (41, a.slot(*slot)),
         Call::WalkSkip { slot } => (42, a.slot(*slot)),
+        Call::WalkMany { slot, count } => (43, a.slot(*slot).word(*count)),
         Call::TextOf { slot, path } => (50, a.slot(*slot).path(path)),
         Call::TextSlice { to, from, start, end } => {
             (51, a.slot(*to).slot(*from).word(*start).word(*end))

@@ -1,13 +1,14 @@
 -- `find_node` meets its contract. Assumes nothing.
-use borrow.Author.Needs.{needs}
+use Prim.Native.Nat.{_-_}
 use native.Mathlib.Omega.{arith}
 use mathlib.Core.Path.{_∙_}
-use Prim.Native.Nat.{_-_}
+use borrow.Author.Needs.{needs}
 use Rattle.definitions.specs.Tree.{node}
 use Rattle.definitions.specs.Entry.{treesAt}
 use Rattle.definitions.proofs.Sharing.{Sought, sought-start, sought-hit, sought-next, sought-end}
 use Rattle.green.specs.Store.{store, entries}
 use Rattle.green.proofs.Known.{known, number-bound, count-records}
+use Rattle.node_cache.proofs.Seeking.{seek-on}
 use Rattle.node_cache.proofs.NodeEvents.{unshared, node-sought, node-reused}
 use Rattle.node_cache.proofs.search.find_node.Statement.{statement}
 use Rattle.node_cache.proofs.search.find_node.Tie as tie
@@ -22,22 +23,25 @@ returns : tie.Need-returns Inv-loop μ-loop
 returns c = unshared (c .before .before .before .before .before .before .pre .1) (c .if1 .taken)
 
 loop-holds : tie.Need-loop-holds Inv-loop μ-loop
-loop-holds c = sought-start
+loop-holds c = seek-on (c .next-alike .ensures) (c .before .before .before .before .before .before .before .before .pre .1 .hash) sought-start
 
 is-node-requires : tie.Need-is-node-requires Inv-loop μ-loop
-is-node-requires c κs = (known _ (c .before .before .before .before .before .before .before .before .before .pre .0 .0) _ (c .loop-test .taken), node-sought (c .before .before .before .before .before .before .before .before .before .pre .1) (c .before .before .before .if1 .left) (c .before .before .before .before .before .before .before .before .before .pre .0 .1))
+is-node-requires c κs = (known _ (c .before .before .before .before .before .before .before .before .before .before .pre .0 .0) _ (c .loop-test .taken), node-sought (c .before .before .before .before .before .before .before .before .before .before .pre .1) (c .before .before .before .before .if1 .left) (c .before .before .before .before .before .before .before .before .before .before .pre .0 .1))
 
 returns-2 : tie.Need-returns-2 Inv-loop μ-loop
-returns-2 c = sought-hit (c .before .before .before .loop .inv) (known _ (c .before .before .before .before .before .before .before .before .before .before .before .pre .0 .0) _ (c .before .before .loop-test .taken) .within) _ (c .before .is-node .ensures) (c .if2 .taken) ∙ node-reused (c .before .before .before .before .before .before .before .before .before .before .before .pre .1) (c .before .before .before .before .before .if1 .left)
+returns-2 c = sought-hit (c .before .before .before .loop .inv) (known _ (c .before .before .before .before .before .before .before .before .before .before .before .before .pre .0 .0) _ (c .before .before .loop-test .taken) .within) _ (c .before .is-node .ensures) (c .if2 .taken) ∙ node-reused (c .before .before .before .before .before .before .before .before .before .before .before .before .pre .1) (c .before .before .before .before .before .before .if1 .left)
 
-add-i : tie.Need-add-i Inv-loop μ-loop
-add-i c = omega (arith, number-bound _ _ (known _ (c .before .before .before .before .before .before .before .before .before .before .before .pre .0 .0) _ (c .before .before .loop-test .taken)))
+add-next-alike : tie.Need-add-next-alike Inv-loop μ-loop
+add-next-alike c = omega (arith, number-bound _ _ (known _ (c .before .before .before .before .before .before .before .before .before .before .before .before .pre .0 .0) _ (c .before .before .loop-test .taken)))
+
+loop-less : tie.Need-loop-less Inv-loop μ-loop
+loop-less c = omega (arith, (c .next-alike2 .ensures .none .after), (c .before .before .before .loop-test .taken))
 
 loop-again : tie.Need-loop-again Inv-loop μ-loop
-loop-again c = sought-next (c .before .before .before .loop .inv) (known _ (c .before .before .before .before .before .before .before .before .before .before .before .pre .0 .0) _ (c .before .before .loop-test .taken) .within) _ (c .before .is-node .ensures) (c .if2 .left)
+loop-again c = seek-on (c .next-alike2 .ensures) (c .before .before .before .before .before .before .before .before .before .before .before .before .before .pre .1 .hash) (sought-next (c .before .before .before .before .loop .inv) (known _ (c .before .before .before .before .before .before .before .before .before .before .before .before .before .pre .0 .0) _ (c .before .before .before .loop-test .taken) .within) _ (c .before .before .is-node .ensures) (c .before .if2 .left))
 
 returns-3 : tie.Need-returns-3 Inv-loop μ-loop
-returns-3 c = sought-end (c .before .loop .inv) (omega (arith, count-records _ (c .before .before .before .before .before .before .before .before .before .pre .0 .0), (c .loop-test .left))) ∙ node-reused (c .before .before .before .before .before .before .before .before .before .pre .1) (c .before .before .before .if1 .left)
+returns-3 c = sought-end (c .before .loop .inv) (omega (arith, count-records _ (c .before .before .before .before .before .before .before .before .before .before .pre .0 .0), (c .loop-test .left))) ∙ node-reused (c .before .before .before .before .before .before .before .before .before .before .pre .1) (c .before .before .before .before .if1 .left)
 
 pub find-node-spec : {M : Type 1} → statement M
 find-node-spec =
@@ -47,10 +51,12 @@ find-node-spec =
     μ-loop
     returns
     (λ c. search needs)
+    (λ c κs. search needs)
     loop-holds
     is-node-requires
     returns-2
-    add-i
-    (λ c. search needs)
+    add-next-alike
+    (λ c κs. search needs)
+    loop-less
     loop-again
     returns-3)

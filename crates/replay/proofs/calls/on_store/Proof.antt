@@ -5,13 +5,13 @@ use Rattle.replay.proofs.calls.on_store.Statement.{statement}
 use Rattle.replay.proofs.calls.on_store.Tie as tie
 
 slice-aggregate-answer-all : tie.Need-slice-aggregate-answer-all
-slice-aggregate-answer-all c = lent-records _ (c .before .before .before .before .before .least .result) (c .before .before .before .before .before .before .before .before .before .before .args .records .now) (c .before .before .before .before .before .least .ensures)
+slice-aggregate-answer-all c = lent-records _ (c .before .before .before .before .least .result) (c .before .before .before .before .before .before .before .before .args .records .now) (c .before .before .before .before .least .ensures)
 
 slice-aggregate-answer-all-2 : tie.Need-slice-aggregate-answer-all-2
-slice-aggregate-answer-all-2 c = lent-length _ (c .before .before .before .before .before .before .before .before .before .before .before .args .children .now) (c .before .before .before .before .before .least2 .ensures)
+slice-aggregate-answer-all-2 c = lent-length _ (c .before .before .before .before .before .before .before .before .before .args .children .now) (c .before .before .before .before .least2 .ensures)
 
 slice-aggregate-answer-all-3 : tie.Need-slice-aggregate-answer-all-3
-slice-aggregate-answer-all-3 c = lent-length _ (c .before .before .before .before .before .before .before .before .before .before .before .before .args .text .now) (c .before .before .before .before .before .least3 .ensures)
+slice-aggregate-answer-all-3 c = lent-length _ (c .before .before .before .before .before .before .before .before .before .before .args .text .now) (c .before .before .before .before .least3 .ensures)
 
 pub on-store-spec : {M : Type 1} → statement M
 on-store-spec =
@@ -28,7 +28,6 @@ on-store-spec =
     (λ c. search needs)
     slice-aggregate-answer-all-3
     (λ c κs. search needs)
-    (λ c. search needs)
     (λ c. search needs)
     (λ c. search needs)
     (λ c. search needs)

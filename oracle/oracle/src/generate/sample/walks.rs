@@ -12,6 +12,7 @@ pub fn walks(sample: &mut Recorder) {
     empty_slots(sample);
     kept(sample);
     deep(sample);
+    many(sample);
 }
 
 impl Recorder {
@@ -24,6 +25,10 @@ impl Recorder {
         for _ in 0..times {
             self.put(Call::WalkNext { slot });
         }
+    }
+
+    fn many(&mut self, slot: usize, count: u32) {
+        self.put(Call::WalkMany { slot, count });
     }
 
     fn skip(&mut self, slot: usize) {
@@ -118,6 +123,32 @@ fn deep(sample: &mut Recorder) {
     walk(sample, false, &path(root, &[]), &[64, 65]);
     walk(sample, false, &path(root, &[0]), &[20]);
     walk(sample, true, &path(root, &[0; 64]), &[]);
+}
+
+/// Many steps at once: none, some, up to the end, past it and over a skip; more than the program takes at a time.
+fn many(sample: &mut Recorder) {
+    let root = sample.tree_alone(nested());
+    for tokens in [false, true] {
+        for count in [0, 1, 2, 3, 7, u32::MAX] {
+            sample.begin(1, tokens, &path(root, &[]));
+            for _ in 0..3 {
+                sample.many(1, count);
+            }
+            sample.skip(1);
+            sample.many(1, count);
+            sample.next(1, 1);
+        }
+    }
+    let root = sample.tree_alone(chain(64));
+    for (depth, count) in [(0, 63), (0, 64), (0, 65), (1, 128), (32, 64), (63, 5)] {
+        sample.begin(0, true, &path(root, &vec![0; depth]));
+        for _ in 0..3 {
+            sample.many(0, count);
+        }
+    }
+    sample.tree_alone(tree_t());
+    sample.many(0, 4);
+    sample.many(3, 0);
 }
 
 /// Walks over many children of which the last is a node.

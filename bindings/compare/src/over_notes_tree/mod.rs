@@ -1,0 +1,5 @@
+//! The program over notes_tree.
+
+#[path = "../program.rs"]
+pub mod program;
+mod side;

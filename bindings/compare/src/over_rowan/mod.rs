@@ -1,0 +1,5 @@
+//! The program over rowan.
+
+#[path = "../program.rs"]
+pub mod program;
+mod side;

@@ -1,0 +1,268 @@
+//! Handles of nodes.
+
+use std::{fmt, iter};
+
+use crate::{
+    calls::{Places, Words},
+    cursor::{path::where_is, Handle, Preorder, PreorderWithTokens, SyntaxElement, SyntaxPath, SyntaxToken},
+    ffi,
+    green::{GreenElement, GreenNode, Store},
+    refusal::Refusal,
+    syntax_text::SyntaxText,
+    utility_types::{Direction, TextRange, TextSize, TokenAtOffset, WalkEvent},
+    SyntaxKind,
+};
+
+/// A node of a tree. Two are equal if they are the same record at the same offset, as in rowan.
+#[derive(Clone)]
+pub struct SyntaxNode<'s>(pub(crate) Handle<'s>);
+
+impl<'s> SyntaxNode<'s> {
+    /// The root of the tree of `green`. [`Refusal::NoSuchElement`] if that is of another store.
+    pub fn new_root(store: &'s Store<'s>, green: GreenNode) -> Result<SyntaxNode<'s>, Refusal> {
+        let root = store.own(green.into())?;
+        let root = Handle::at(store, root, 0, [0; 64])?;
+        root.into_node().ok_or(Refusal::NoSuchElement)
+    }
+
+    /// The node's kind. No call.
+    #[inline]
+    pub fn kind(&self) -> SyntaxKind {
+        self.0.kind
+    }
+
+    /// The node's range, counted from where its root starts. No call.
+    #[inline]
+    pub fn text_range(&self) -> TextRange {
+        self.0.range
+    }
+
+    /// Which child of its parent it is; 0 for a root. No call.
+    #[inline]
+    pub fn index(&self) -> usize {
+        self.0.index()
+    }
+
+    /// The node's text.
+    pub fn text(&self) -> SyntaxText<'s> {
+        SyntaxText::new(self.clone())
+    }
+
+    /// The node's record.
+    pub fn green(&self) -> GreenNode {
+        self.0.green().into_node().expect("a node's record is a node")
+    }
+
+    /// Where it stands: to be kept while the store is written, and for [`SyntaxPath::replace_with`].
+    pub fn path(&self) -> SyntaxPath {
+        self.0.to_path()
+    }
+
+    /// The path of an occurrence of `element` in the tree of this node alone, which its path has for a root. Added to rowan.
+    pub fn where_is(&self, element: impl Into<GreenElement>) -> Result<Option<SyntaxPath>, Refusal> {
+        where_is(self.0.store, self.green(), element.into())
+    }
+
+    /// The node as a root of its own.
+    pub fn clone_subtree(&self) -> SyntaxNode<'s> {
+        SyntaxNode::new_root(self.0.store, self.green()).expect("a node's record is of its store")
+    }
+
+    /// The parent, or none at a root.
+    pub fn parent(&self) -> Option<SyntaxNode<'s>> {
+        self.0.step_to_node(Places::parent)
+    }
+
+    /// This node, its parent, and on up to the root.
+    pub fn ancestors(&self) -> impl Iterator<Item = SyntaxNode<'s>> {
+        iter::successors(Some(self.clone()), SyntaxNode::parent)
+    }
+
+    /// The root.
+    pub fn tree_top(&self) -> SyntaxNode<'s> {
+        self.0.tree_top()
+    }
+
+    /// The children that are nodes.
+    pub fn children(&self) -> SyntaxNodeChildren<'s> {
+        SyntaxNodeChildren { next: self.first_child() }
+    }
+
+    /// All children.
+    pub fn children_with_tokens(&self) -> SyntaxElementChildren<'s> {
+        SyntaxElementChildren { next: self.first_child_or_token() }
+    }
+
+    /// The first child that is a node.
+    pub fn first_child(&self) -> Option<SyntaxNode<'s>> {
+        self.0.step_to_node(Places::first_child)
+    }
+
+    /// The last child that is a node.
+    pub fn last_child(&self) -> Option<SyntaxNode<'s>> {
+        self.0.step_to_node(Places::last_child)
+    }
+
+    /// The first child.
+    pub fn first_child_or_token(&self) -> Option<SyntaxElement<'s>> {
+        self.0.step(Places::first_child_or_token)
+    }
+
+    /// The last child.
+    pub fn last_child_or_token(&self) -> Option<SyntaxElement<'s>> {
+        self.0.step(Places::last_child_or_token)
+    }
+
+    /// The next sibling that is a node.
+    pub fn next_sibling(&self) -> Option<SyntaxNode<'s>> {
+        self.0.step_to_node(Places::next_sibling)
+    }
+
+    /// The previous sibling that is a node.
+    pub fn prev_sibling(&self) -> Option<SyntaxNode<'s>> {
+        self.0.step_to_node(Places::prev_sibling)
+    }
+
+    /// The next sibling.
+    pub fn next_sibling_or_token(&self) -> Option<SyntaxElement<'s>> {
+        self.0.step(Places::next_sibling_or_token)
+    }
+
+    /// The previous sibling.
+    pub fn prev_sibling_or_token(&self) -> Option<SyntaxElement<'s>> {
+        self.0.step(Places::prev_sibling_or_token)
+    }
+
+    /// The token at the end of first children. None if that is a node without children: it looks no further, as in rowan.
+    pub fn first_token(&self) -> Option<SyntaxToken<'s>> {
+        self.0.step_to_token(Places::first_token)
+    }
+
+    /// The token at the end of last children, in the same way.
+    pub fn last_token(&self) -> Option<SyntaxToken<'s>> {
+        self.0.step_to_token(Places::last_token)
+    }
+
+    /// This node, then its siblings that are nodes, one way.
+    pub fn siblings(&self, direction: Direction) -> impl Iterator<Item = SyntaxNode<'s>> {
+        iter::successors(Some(self.clone()), move |node| match direction {
+            Direction::Next => node.next_sibling(),
+            Direction::Prev => node.prev_sibling(),
+        })
+    }
+
+    /// This node, then all its siblings, one way.
+    pub fn siblings_with_tokens(&self, direction: Direction) -> impl Iterator<Item = SyntaxElement<'s>> {
+        SyntaxElement::from(self.clone()).siblings(direction)
+    }
+
+    /// This node and the nodes below it, in preorder.
+    pub fn descendants(&self) -> impl Iterator<Item = SyntaxNode<'s>> {
+        self.preorder().filter_map(|event| match event {
+            WalkEvent::Enter(node) => Some(node),
+            WalkEvent::Leave(_) => None,
+        })
+    }
+
+    /// This node and all elements below it, in preorder.
+    pub fn descendants_with_tokens(&self) -> impl Iterator<Item = SyntaxElement<'s>> {
+        self.preorder_with_tokens().filter_map(|event| match event {
+            WalkEvent::Enter(element) => Some(element),
+            WalkEvent::Leave(_) => None,
+        })
+    }
+
+    /// The walk of this node and the nodes below it.
+    pub fn preorder(&self) -> Preorder<'s> {
+        Preorder::new(self)
+    }
+
+    /// The walk of this node and all elements below it.
+    pub fn preorder_with_tokens(&self) -> PreorderWithTokens<'s> {
+        PreorderWithTokens::new(self)
+    }
+
+    /// The nonempty tokens whose closed range holds the offset. [`Refusal::Outside`] if it is outside of the node.
+    pub fn token_at_offset(&self, offset: TextSize) -> Result<TokenAtOffset<SyntaxToken<'s>>, Refusal> {
+        let Handle { store, root, depth, .. } = self.0;
+        let (mut left, mut right, mut words) = (self.0.clone(), self.0.clone(), Words::default());
+        let paths = (&mut left.path, &mut right.path);
+        let outcome = store.places.token_at_offset(root, paths, depth, offset as usize, &mut words)?;
+        let token = |mut handle: Handle<'s>, words: &[usize]| {
+            handle.arrive(words);
+            SyntaxToken(handle)
+        };
+        Ok(match outcome {
+            ffi::NONE => TokenAtOffset::None,
+            ffi::PAIR => TokenAtOffset::Between(token(left, &words[..4]), token(right, &words[4..])),
+            _ => TokenAtOffset::Single(token(left, &words[..4])),
+        })
+    }
+
+    /// The lowest element that covers the range; of two at an empty range, the left one. [`Refusal::Outside`] if the range is
+    /// not within the node.
+    pub fn covering_element(&self, range: TextRange) -> Result<SyntaxElement<'s>, Refusal> {
+        let range = (range.start() as usize, range.end() as usize);
+        let found =
+            self.0.ask(|places, root, path, depth, words| places.covering_element(root, path, depth, range, words))?;
+        Ok(found.expect("a node covers what is within it"))
+    }
+
+    /// The child that contains the range, if there is one. [`Refusal::Outside`] if the range starts before the node.
+    pub fn child_or_token_at_range(&self, range: TextRange) -> Result<Option<SyntaxElement<'s>>, Refusal> {
+        let range = (range.start() as usize, range.end() as usize);
+        self.0.ask(|places, root, path, depth, words| places.child_or_token_at_range(root, path, depth, range, words))
+    }
+}
+
+impl PartialEq for SyntaxNode<'_> {
+    fn eq(&self, other: &SyntaxNode<'_>) -> bool {
+        self.0.is_same(&other.0)
+    }
+}
+
+impl Eq for SyntaxNode<'_> {}
+
+impl fmt::Debug for SyntaxNode<'_> {
+    fn fmt(&self, f: &mut fmt::Formatter<'_>) -> fmt::Result {
+        self.0.debug("SyntaxNode", f)
+    }
+}
+
+impl fmt::Display for SyntaxNode<'_> {
+    fn fmt(&self, f: &mut fmt::Formatter<'_>) -> fmt::Result {
+        fmt::Display::fmt(&self.text(), f)
+    }
+}
+
+/// The children of a node that are nodes.
+#[derive(Clone, Debug)]
+pub struct SyntaxNodeChildren<'s> {
+    next: Option<SyntaxNode<'s>>,
+}
+
+impl<'s> Iterator for SyntaxNodeChildren<'s> {
+    type Item = SyntaxNode<'s>;
+
+    fn next(&mut self) -> Option<SyntaxNode<'s>> {
+        let next = self.next.take()?;
+        self.next = next.next_sibling();
+        Some(next)
+    }
+}
+
+/// The children of a node.
+#[derive(Clone, Debug)]
+pub struct SyntaxElementChildren<'s> {
+    next: Option<SyntaxElement<'s>>,
+}
+
+impl<'s> Iterator for SyntaxElementChildren<'s> {
+    type Item = SyntaxElement<'s>;
+
+    fn next(&mut self) -> Option<SyntaxElement<'s>> {
+        let next = self.next.take()?;
+        self.next = next.next_sibling_or_token();
+        Some(next)
+    }
+}

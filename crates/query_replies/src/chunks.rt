@@ -1,0 +1,168 @@
+// Calls 53 and 54: the chunks of a text in a slot.
+
+ghost use Prim.Native.Nat.{_<_};
+ghost use Rattle.green.specs.Store.{here};
+ghost use Rattle.green.specs.Valid.{Valid};
+use files::out;
+use files::out::Buffer;
+use green::Counts;
+use questions::slots;
+use questions::slots::Slots;
+use questions::text as kept;
+use questions::text::Text;
+use replies::bytes;
+use replies::show;
+use script::call::Call;
+use script::words;
+use syntax_text_chunks::chunks;
+
+// A chunk's bytes, or by its outcome why there is none: 1 says the end, any other number is a refusal's.
+fn put_chunk(out: &mut Buffer, outcome: usize, chunk: &[u8]) {
+    if outcome == 0 {
+        out::put(out, b"chunk");
+        bytes::put_bytes(out, chunk);
+    } else if outcome == 1 {
+        out::put(out, b"ended");
+    } else {
+        out::put(out, b"refused");
+        show::put_number(out, outcome);
+    }
+    out::put(out, b"\n");
+}
+
+// The first chunk: a state that keeps no place. How many were then given.
+fn first(
+    out: &mut Buffer,
+    records: &[u64],
+    children: &[u64],
+    text: &[u8],
+    used: &Counts,
+    it: Text,
+    path: &[u32; 64],
+) -> usize
+    requires { ⌜ Valid (here records children text used) ⌝ }
+{
+    let mut given: usize = 0;
+    let mut place = [0u32; 64];
+    let mut kept: usize = 0;
+    let mut outcome: usize = 0;
+    let chunk = chunks::next_chunk(
+        records,
+        children,
+        text,
+        used,
+        it.root,
+        path,
+        it.depth,
+        it.start,
+        it.end,
+        &mut given,
+        &mut place,
+        &mut kept,
+        &mut outcome,
+    );
+    put_chunk(out, outcome, chunk);
+    given
+}
+
+// A chunk after `before` + 1 others: the one before it is found by the count, and it by the place that was kept then.
+fn further(
+    out: &mut Buffer,
+    records: &[u64],
+    children: &[u64],
+    text: &[u8],
+    used: &Counts,
+    it: Text,
+    path: &[u32; 64],
+    before: usize,
+) -> usize
+    requires { ⌜ Valid (here records children text used) ⌝ }
+{
+    let mut given = before;
+    let mut place = [0u32; 64];
+    let mut kept: usize = 0;
+    let mut outcome: usize = 0;
+    chunks::next_chunk(
+        records,
+        children,
+        text,
+        used,
+        it.root,
+        path,
+        it.depth,
+        it.start,
+        it.end,
+        &mut given,
+        &mut place,
+        &mut kept,
+        &mut outcome,
+    );
+    let chunk = chunks::next_chunk(
+        records,
+        children,
+        text,
+        used,
+        it.root,
+        path,
+        it.depth,
+        it.start,
+        it.end,
+        &mut given,
+        &mut place,
+        &mut kept,
+        &mut outcome,
+    );
+    put_chunk(out, outcome, chunk);
+    given
+}
+
+fn next(
+    out: &mut Buffer,
+    records: &[u64],
+    children: &[u64],
+    text: &[u8],
+    used: &Counts,
+    it: Text,
+    path: &[u32; 64],
+) -> usize
+    requires { ⌜ Valid (here records children text used) ⌝ }
+{
+    if it.given == 0 {
+        return first(out, records, children, text, used, it, path);
+    }
+    further(out, records, children, text, used, it, path, it.given - 1)
+}
+
+// The word is a slot. Whether the script goes on.
+pub fn answer(
+    call: Call,
+    out: &mut Buffer,
+    records: &[u64],
+    children: &[u64],
+    text: &[u8],
+    used: &Counts,
+    slots: &mut Slots,
+) -> bool
+    requires { ⌜ Valid (here records children text used) ⌝ }
+{
+    let word = words::take_below(call, call.m, 4);
+    if !word.ok || !words::has_words(call, word.left, 0) {
+        return false;
+    }
+    let slot = word.value + 4;
+    let it = kept::read(slots, slot);
+    if !it.is_there {
+        out::put(out, b"no text\n");
+        return true;
+    }
+    if call.op == 53 {
+        kept::set_given(slots, slot, 0);
+        out::put(out, b"ok\n");
+        return true;
+    }
+    let mut path = [0u32; 64];
+    slots::copy_out(slots, slot, &mut path);
+    let given = next(out, records, children, text, used, it, &path);
+    kept::set_given(slots, slot, given);
+    true
+}
