@@ -1,12 +1,16 @@
 //! `oracle compare`.
 
 use super::{
-    gen::profile_of_name, number, options::take_value, progress::Progress, replay::read_script,
+    gen::profile_of_name,
+    number,
+    options::{take_flag, take_value},
+    progress::Progress,
+    replay::read_script,
     write_file, Failure,
 };
 use crate::{
     compare::{Program, Subject, Tally},
-    generate::{script, Profile},
+    generate::{collisions, script, Profile},
     script::{write, Call},
 };
 use std::path::Path;
@@ -20,6 +24,7 @@ pub fn compare(words: &[&str]) -> Result<(), Failure> {
     let profile = take_value(&mut words, "--profile")?.map_or(Ok(Profile::All), profile_of_name)?;
     let file = take_value(&mut words, "--script")?;
     let save = take_value(&mut words, "--save")?;
+    let without_marks = take_flag(&mut words, "--no-marks");
     let program = match words[..] {
         [] => None,
         [program] if !program.starts_with("--") => Some(program),
@@ -31,7 +36,12 @@ pub fn compare(words: &[&str]) -> Result<(), Failure> {
     } else {
         let mut progress = Progress::new(count as usize, "scripts");
         for seed in (0..count).map(|it| seed.wrapping_add(it)) {
-            comparison.check(&script(seed, profile), &format!("seed {seed}"))?;
+            let mut calls = script(seed, profile);
+            if without_marks {
+                calls.retain(|it| !matches!(it, Call::Mark { .. }));
+                collisions::make_ordinary(&mut calls);
+            }
+            comparison.check(&calls, &format!("seed {seed}"))?;
             progress.advance();
         }
     }

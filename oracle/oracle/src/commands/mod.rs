@@ -21,9 +21,11 @@ use: oracle replay FILE
      oracle exhaust EVENTS [--queries] [--walks] [--texts] [--edits] [--program PROGRAM] [--save FILE]
          compares all sheets of up to so many events, on request with all queries, walks, texts
          or edits of each tree
-     oracle compare [PROGRAM] [--seed SEED] [--scripts COUNT] [--profile PROFILE] [--save FILE]
+     oracle compare [PROGRAM] [--seed SEED] [--scripts COUNT] [--profile PROFILE] [--no-marks] [--save FILE]
          compares rowan and the model, and a program with them, on random call scripts;
-         a script that shows a difference is minimised, printed and on request saved
+         a script that shows a difference is minimised, printed and on request saved;
+         without marks, for a hasher that is not document 01's, call 61 is left out and the
+         tokens that are made for their marks are changed to ordinary ones
      oracle compare [PROGRAM] --script FILE [--save FILE]
          the same on one call script
      oracle sample FILE
