@@ -8,7 +8,7 @@ use rowan::{
 };
 
 /// Where-is asked in a run.
-const SEARCHES: usize = 16;
+const SEARCHES: usize = 64;
 
 /// Down to a child, along its siblings, and so below each of them: the sum, and how many calls it took.
 macro_rules! rowans {
