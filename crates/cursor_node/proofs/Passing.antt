@@ -83,6 +83,10 @@ module _ {s : Store} {c : Cursor} {d : Direction} {left k : ℕ} (m : Passed s c
   stop-none f e = record { nearest = λ p. rw f (m .same p ∙ rw (e, none-ahead d (children (at (entries s) p c))) refl) }
 
 -- next_child_from
+pub first-of-all : {s : Store} {c : Cursor} → Inner s c → (from : ℕ) {tokens : Bool} → tokens ≡ true → FirstFrom (entries s) c tokens from from
+unfolding offered
+first-of-all {s} {c} i from t p = rw t (head-drop (children (at (entries s) p c)) from)
+
 pub first-from : {s : Store} {c : Cursor} → Inner s c → {n from k : ℕ} (tokens : Bool) → n ≡ childCount (entries s) c → from ≤ n
     → PassesTo s c Next tokens (n - from) k × (k ≤ n - from) → FirstFrom (entries s) c tokens from (n - k)
 first-from {s} {c} i {n} {from} {k} tokens e h g p =
