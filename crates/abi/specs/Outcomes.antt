@@ -31,8 +31,8 @@ use Rattle.preorder_many.specs.declared.state.Stop.{Stop}
 use Rattle.preorder_many.specs.declared.state.Stop.the-variants as stop
 use Rattle.query.specs.declared.reply.Reply.{Reply}
 use Rattle.query.specs.declared.reply.Reply.the-variants as reply
-use Rattle.sheet_run.specs.declared.Ended.{Ended}
-use Rattle.sheet_run.specs.declared.Ended.the-variants as ended
+use Rattle.sheet.specs.declared.Ended.{Ended}
+use Rattle.sheet.specs.declared.Ended.the-variants as ended
 
 -- what a call returns, and the words that it writes
 pub record Told : Type 0 where

@@ -15,7 +15,7 @@ use preorder::state::Answer as WalkAnswer;
 use preorder::state::Moved;
 use preorder_many::state::Stop;
 use query::reply::Reply;
-use sheet_run::Ended;
+use sheet::Ended;
 use utility_types::Made;
 use utility_types::Refusal;
 use utility_types::SyntaxElement;

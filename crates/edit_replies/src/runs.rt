@@ -10,8 +10,8 @@ use replies::show;
 use script::bytes;
 use script::call::Call;
 use script::words;
+use sheet::Ended;
 use sheet::format;
-use sheet_run::Ended;
 use utility_types::Refusal;
 use utility_types::number;
 

@@ -9,7 +9,7 @@ use Rattle.utility_types.specs.declared.Made.{Made}
 use Rattle.green.specs.Store.{Store, lent, entries, both}
 use Rattle.green.specs.Valid.{Valid}
 use Rattle.green_new.specs.Done.{Done}
-use Rattle.sheet_run.specs.declared.Ended.{Ended}
+use Rattle.sheet.specs.declared.Ended.{Ended}
 use Rattle.sheet_run.specs.RunDone.{RunDone, YieldsDone}
 use Rattle.notes_tree.specs.History.{Edit, makes, Call, Performed, History}
 use Rattle.preorder.specs.declared.state.Coming.{Coming}

@@ -5,7 +5,7 @@ use files::out;
 use files::out::Buffer;
 use green::Counts;
 use green::element::Summary;
-use sheet_run::Ended;
+use sheet::Ended;
 use utility_types::Made;
 use utility_types::Refusal;
 use utility_types::SyntaxKind;
