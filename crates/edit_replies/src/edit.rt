@@ -1,4 +1,4 @@
-// Calls 10 to 14. A call's words are read first, and then it is put to the port.
+// Calls 10 to 14. A call's words are read first, and then it is put to the port, and then its reply is printed.
 
 ghost use Prim.Native.Nat.{_≤_};
 ghost use lib.ListN.{length};
@@ -15,7 +15,7 @@ use utility_types::Made;
 use utility_types::number;
 
 // A node, or a path's root and how many indexes it has; a range of the node's children, or an index as its start; and a new
-// element, or of a splice how many there are, which lie in a lent place.
+// element, or of a splice how many there are. The path and a splice's new elements lie in lent places.
 struct Edit {
     ok: bool,
     of: usize,
@@ -23,10 +23,11 @@ struct Edit {
     start: usize,
     end: usize,
     new: usize,
+    count: usize,
 }
 
 fn no_edit() -> Edit
-    ensures { λ r. ⌜ r .new ≤ 4200 ⌝ }
+    ensures { λ r. ⌜ r .count ≤ 4200 ⌝ }
 {
     Edit {
         ok: false,
@@ -35,6 +36,7 @@ fn no_edit() -> Edit
         start: 0,
         end: 0,
         new: 0,
+        count: 0,
     }
 }
 
@@ -46,7 +48,9 @@ fn words_of(op: u32) -> usize
 }
 
 // Calls 10 to 12: a node, an index among its children, and a new element unless one is taken out.
-fn read_child_edit(call: Call) -> Edit {
+fn read_child_edit(call: Call) -> Edit
+    ensures { λ r. ⌜ r .count ≤ 4200 ⌝ }
+{
     let count = words_of(call.op);
     let mut of = [0u32; 3];
     let ok = words::has_words(call, call.m, count) && words::read_words(call, &mut of, count);
@@ -57,13 +61,14 @@ fn read_child_edit(call: Call) -> Edit {
         start: number::widen(of[1]),
         end: 0,
         new: number::widen(of[2]),
+        count: 0,
     }
 }
 
 // Call 13: a node, a range of its children, and then the new elements.
 fn read_splice(call: Call, new: &mut [u32]) -> Edit
     requires { ⌜ 4200 ≤ length (now new) ⌝ }
-    ensures { λ r. ⌜ r .new ≤ 4200 ⌝ }
+    ensures { λ r. ⌜ r .count ≤ 4200 ⌝ }
 {
     let mut of = [0u32; 3];
     if call.m < 3 {
@@ -84,12 +89,15 @@ fn read_splice(call: Call, new: &mut [u32]) -> Edit
         depth: 0,
         start: number::widen(of[1]),
         end: number::widen(of[2]),
-        new: count,
+        new: 0,
+        count,
     }
 }
 
 // Call 14: a new element, and a path.
-fn read_replacement(call: Call, path: &mut [u32; 64]) -> Edit {
+fn read_replacement(call: Call, path: &mut [u32; 64]) -> Edit
+    ensures { λ r. ⌜ r .count ≤ 4200 ⌝ }
+{
     let new = words::take_word(call, call.m);
     if !new.ok {
         return no_edit();
@@ -102,6 +110,19 @@ fn read_replacement(call: Call, path: &mut [u32; 64]) -> Edit {
         start: 0,
         end: 0,
         new: new.value,
+        count: 0,
+    }
+}
+
+fn read(call: Call, path: &mut [u32; 64], new: &mut [u32]) -> Edit
+    requires { ⌜ 4200 ≤ length (now new) ⌝ }
+    ensures { λ r. ⌜ r .count ≤ 4200 ⌝ }
+{
+    let op = call.op;
+    match op {
+        13 => read_splice(call, new),
+        14 => read_replacement(call, path),
+        _ => read_child_edit(call),
     }
 }
 
@@ -123,61 +144,37 @@ fn edit_child(
     }
 }
 
-// Calls 10 to 12. Whether the script goes on, here and below.
-pub fn of_child(
-    call: Call,
-    out: &mut Buffer,
+fn make(
     records: &mut [u64],
     children: &mut [u64],
     text: &[u8],
     used: &mut Counts,
-) -> bool
+    op: u32,
+    it: Edit,
+    path: &[u32; 64],
+    new: &[u32],
+) -> Made
     requires { ⌜ Valid (here records children text used) ⌝ }
     ensures { λ _. ⌜ Valid (here (records .exit) (children .exit) (text .entry) (used .exit)) ⌝ }
 {
-    let it = read_child_edit(call);
-    if !it.ok {
-        return false;
+    match op {
+        13 => edits::splice_children(records, children, text, used, it.of, it.start, it.end, new),
+        14 => replace_with::replace_with(
+            records,
+            children,
+            text,
+            used,
+            it.of,
+            path,
+            it.depth,
+            it.new,
+        ),
+        _ => edit_child(records, children, text, used, op, it),
     }
-    let made = edit_child(records, children, text, used, call.op, it);
-    show::put_made(out, made, used);
-    true
 }
 
-// Call 13.
-pub fn splice(
-    call: Call,
-    out: &mut Buffer,
-    records: &mut [u64],
-    children: &mut [u64],
-    text: &[u8],
-    used: &mut Counts,
-) -> bool
-    requires { ⌜ Valid (here records children text used) ⌝ }
-    ensures { λ _. ⌜ Valid (here (records .exit) (children .exit) (text .entry) (used .exit)) ⌝ }
-{
-    let mut new = [0u32; 4200];
-    let it = read_splice(call, &mut new);
-    if !it.ok {
-        return false;
-    }
-    let count = it.new;
-    let made = edits::splice_children(
-        records,
-        children,
-        text,
-        used,
-        it.of,
-        it.start,
-        it.end,
-        &new[..count],
-    );
-    show::put_made(out, made, used);
-    true
-}
-
-// Call 14.
-pub fn replace_at(
+// Whether the script goes on.
+pub fn answer(
     call: Call,
     out: &mut Buffer,
     records: &mut [u64],
@@ -189,19 +186,21 @@ pub fn replace_at(
     ensures { λ _. ⌜ Valid (here (records .exit) (children .exit) (text .entry) (used .exit)) ⌝ }
 {
     let mut path = [0u32; 64];
-    let it = read_replacement(call, &mut path);
+    let mut new = [0u32; 4200];
+    let it = read(call, &mut path, &mut new);
     if !it.ok {
         return false;
     }
-    let made = replace_with::replace_with(
+    let count = it.count;
+    let made = make(
         records,
         children,
         text,
         used,
-        it.of,
+        call.op,
+        it,
         &path,
-        it.depth,
-        it.new,
+        &new[..count],
     );
     show::put_made(out, made, used);
     true

@@ -21,11 +21,8 @@ pub fn answer(
     requires { ⌜ Valid (here records children text used) ⌝ }
     ensures { λ _. ⌜ Valid (here (records .exit) (children .exit) (text .exit) (used .exit)) ⌝ }
 {
-    let op = call.op;
-    match op {
-        2 | 3 => runs::answer(call, out, records, children, text, used),
-        10..=12 => edit::of_child(call, out, records, children, text, used),
-        13 => edit::splice(call, out, records, children, text, used),
-        _ => edit::replace_at(call, out, records, children, text, used),
+    if call.op < 10 {
+        return runs::answer(call, out, records, children, text, used);
     }
+    edit::answer(call, out, records, children, text, used)
 }

@@ -29,8 +29,9 @@ fn put_chunk(out: &mut Buffer, outcome: usize, chunk: &[u8]) {
     }
 }
 
-// The first chunk: a state that keeps no place. How many were then given.
-fn first(
+// The next chunk, from a state that keeps no place. The one before it is found by the count first, and then it by the place
+// that was kept. How many were then given.
+fn next(
     out: &mut Buffer,
     records: &[u64],
     children: &[u64],
@@ -45,91 +46,41 @@ fn first(
     let mut place = [0u32; 64];
     let mut kept: usize = 0;
     let mut outcome: usize = 0;
-    let chunk = chunks::next_chunk(
-        records,
-        children,
-        text,
-        used,
-        it.root,
-        path,
-        it.depth,
-        it.start,
-        it.end,
-        &mut given,
-        &mut place,
-        &mut kept,
-        &mut outcome,
-    );
-    put_chunk(out, outcome, chunk);
-    given
-}
-
-// A chunk after `before` + 1 others: the one before it is found by the count, and it by the place that was kept then.
-fn further(
-    out: &mut Buffer,
-    records: &[u64],
-    children: &[u64],
-    text: &[u8],
-    used: &Counts,
-    it: Text,
-    path: &[u32; 64],
-    before: usize,
-) -> usize
-    requires { ⌜ Valid (here records children text used) ⌝ }
-{
-    let mut given = before;
-    let mut place = [0u32; 64];
-    let mut kept: usize = 0;
-    let mut outcome: usize = 0;
-    chunks::next_chunk(
-        records,
-        children,
-        text,
-        used,
-        it.root,
-        path,
-        it.depth,
-        it.start,
-        it.end,
-        &mut given,
-        &mut place,
-        &mut kept,
-        &mut outcome,
-    );
-    let chunk = chunks::next_chunk(
-        records,
-        children,
-        text,
-        used,
-        it.root,
-        path,
-        it.depth,
-        it.start,
-        it.end,
-        &mut given,
-        &mut place,
-        &mut kept,
-        &mut outcome,
-    );
-    put_chunk(out, outcome, chunk);
-    given
-}
-
-fn next(
-    out: &mut Buffer,
-    records: &[u64],
-    children: &[u64],
-    text: &[u8],
-    used: &Counts,
-    it: Text,
-    path: &[u32; 64],
-) -> usize
-    requires { ⌜ Valid (here records children text used) ⌝ }
-{
-    if it.given == 0 {
-        return first(out, records, children, text, used, it, path);
+    if 0 < it.given {
+        given = it.given - 1;
+        chunks::next_chunk(
+            records,
+            children,
+            text,
+            used,
+            it.root,
+            path,
+            it.depth,
+            it.start,
+            it.end,
+            &mut given,
+            &mut place,
+            &mut kept,
+            &mut outcome,
+        );
     }
-    further(out, records, children, text, used, it, path, it.given - 1)
+    let chunk = chunks::next_chunk(
+        records,
+        children,
+        text,
+        used,
+        it.root,
+        path,
+        it.depth,
+        it.start,
+        it.end,
+        &mut given,
+        &mut place,
+        &mut kept,
+        &mut outcome,
+    );
+    put_chunk(out, outcome, chunk);
+    given
 }
 
 // The reply to call `op` on the text in a slot.
