@@ -11,23 +11,9 @@ use questions::slots::Slots;
 use questions::text as kept;
 use questions::text::Text;
 use replies::bytes;
-use replies::show;
 use script::call::Call;
 use script::words;
 use syntax_text_chunks::chunks;
-
-// A chunk's bytes, or by its outcome why there is none: 1 says the end, any other number is a refusal's.
-fn put_chunk(out: &mut Buffer, outcome: usize, chunk: &[u8]) {
-    if outcome == 0 {
-        out::put(out, b"chunk");
-        bytes::put_bytes(out, chunk);
-    } else if outcome == 1 {
-        out::put(out, b"ended");
-    } else {
-        out::put(out, b"refused");
-        show::put_number(out, outcome);
-    }
-}
 
 // The next chunk, from a state that keeps no place. The one before it is found by the count first, and then it by the place
 // that was kept. How many were then given.
@@ -79,7 +65,7 @@ fn next(
         &mut kept,
         &mut outcome,
     );
-    put_chunk(out, outcome, chunk);
+    bytes::put_chunk(out, outcome, chunk);
     given
 }
 

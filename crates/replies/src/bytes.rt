@@ -32,3 +32,16 @@ pub fn put_bytes(out: &mut Buffer, bytes: &[u8]) {
         put_digits(out, bytes);
     }
 }
+
+// A chunk's bytes, or by its outcome why there is none: 1 says the end, any other number is a refusal's.
+pub fn put_chunk(out: &mut Buffer, outcome: usize, chunk: &[u8]) {
+    if outcome == 0 {
+        out::put(out, b"chunk");
+        put_bytes(out, chunk);
+    } else if outcome == 1 {
+        out::put(out, b"ended");
+    } else {
+        out::put(out, b"refused");
+        put_number(out, outcome);
+    }
+}

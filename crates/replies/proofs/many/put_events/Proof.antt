@@ -2,8 +2,8 @@
 use Prim.Native.Nat.{_-_, _≤_}
 use lib.ListN.{length}
 use borrow.Author.Needs.{needs}
-use Rattle.query_replies.proofs.many.put_events.Statement.{statement}
-use Rattle.query_replies.proofs.many.put_events.Tie as tie
+use Rattle.replies.proofs.many.put_events.Statement.{statement}
+use Rattle.replies.proofs.many.put_events.Tie as tie
 
 abbrev Inv-loop : tie.InvT-loop
 Inv-loop out₀ events count is-first path₀ i₀ from₀ out path i from =
