@@ -7,7 +7,7 @@ use crate::question::PairQuestion;
 use crate::question::TextQuestion;
 use crate::reply;
 use crate::reply::Reply;
-use cursor_record::same;
+use cursor_range::same;
 use green::Counts;
 use syntax_text::chars;
 use syntax_text::equality;
