@@ -3,10 +3,14 @@
 
 use std::ops::{Deref, DerefMut};
 
-use crate::{ffi, refusal::Refusal};
+use crate::{
+    ffi,
+    green::SyntaxKind,
+    indexes::{Indexes, Lent, Place},
+    refusal::Refusal,
+    utility_types::{NodeOrToken, TextRange, TextSize, TokenAtOffset},
+};
 
-/// A place for the indexes of a path.
-pub(crate) type Indexes = [u32; 64];
 /// What a call answers, after its outcome.
 pub(crate) type Words = [usize; 8];
 /// The words of one event of a walk: Leave, node, kind, depth, last index, start, end.
@@ -15,11 +19,61 @@ pub(crate) type Event = [u64; 7];
 pub(crate) type Yields = [u32; 4096];
 
 /// An outcome that is none of the refusals, or the refusal.
+#[inline]
 fn judged(outcome: usize) -> Result<usize, Refusal> {
     match outcome.checked_sub(ffi::REFUSED) {
         Some(number) => Err(Refusal::of_number(number)),
         None => Ok(outcome),
     }
+}
+
+/// An element that a call has answered.
+#[derive(Clone)]
+pub(crate) struct Found {
+    pub kind: SyntaxKind,
+    pub range: TextRange,
+    pub path: Indexes,
+}
+
+impl Found {
+    /// Words: start, end, depth, kind.
+    #[inline]
+    pub fn new(words: &[usize], path: Indexes) -> Found {
+        let range = TextRange::new(words[0] as TextSize, words[1] as TextSize);
+        Found { kind: SyntaxKind(words[3] as u16), range, path }
+    }
+
+    /// The same, its indexes being in a place.
+    ///
+    /// # Safety
+    ///
+    /// The call that was lent the place has answered these words.
+    #[inline]
+    unsafe fn in_place(words: &[usize], place: &Lent) -> Found {
+        // SAFETY: a call sets the indexes of the element that it answers, at most 64.
+        Found::new(words, unsafe { place.first(words[2]) })
+    }
+}
+
+/// An element or none.
+pub(crate) type Answer = Result<Option<NodeOrToken<Found, Found>>, Refusal>;
+
+/// Asks a question at a path. `call` is given the path's place, its depth and a place for words, and answers the outcome.
+///
+/// # Safety
+///
+/// It is a call of the library.
+#[inline]
+unsafe fn answer(path: &Indexes, call: impl FnOnce(*mut u32, usize, *mut usize) -> usize) -> Answer {
+    let (mut place, mut words) = (Lent::new(), Words::default());
+    place.set(path);
+    let outcome = judged(call(place.as_mut_ptr(), path.len(), words.as_mut_ptr()))?;
+    // SAFETY: the caller says that the outcome is of a call.
+    Ok(match outcome {
+        ffi::NODE => Some(NodeOrToken::Node(unsafe { Found::in_place(&words, &place) })),
+        ffi::TOKEN => Some(NodeOrToken::Token(unsafe { Found::in_place(&words, &place) })),
+        _ => None,
+    })
 }
 
 /// A buffer of the store: its own, or lent to it.
@@ -74,14 +128,14 @@ macro_rules! read {
     };
 }
 
-/// Questions of one element whose answer is another one: `path` takes the answer's indexes.
+/// Questions at a path whose answer is an element.
 macro_rules! questions {
     ($($name:ident $foreign:ident)*) => {
         $(
             #[inline]
-            pub fn $name(&self, root: u32, path: &mut Indexes, depth: usize, words: &mut Words) -> Result<usize, Refusal> {
+            pub fn $name(&self, root: u32, path: &Indexes) -> Answer {
                 // SAFETY: the places are the store's own; path and words have the lengths that the header says.
-                judged(unsafe { read!(self, $foreign(root as usize, path.as_mut_ptr(), depth, words.as_mut_ptr())) })
+                unsafe { answer(path, |path, depth, words| read!(self, $foreign(root as usize, path, depth, words))) }
             }
         )*
     };
@@ -98,9 +152,11 @@ impl<'b> Places<'b> {
         [self.used[0], self.used[1], self.used[2]]
     }
 
-    /// Bytes of the store's text that a chunk names. They are tokens' bytes, which are all under 128.
+    /// Bytes of the store's text that a chunk names.
+    #[inline]
     pub fn text(&self, from: usize, to: usize) -> &str {
-        std::str::from_utf8(&self.text[from..to]).expect("a token's text is of bytes under 128")
+        // SAFETY: a byte over 127 is refused, so all that the library has written are characters.
+        unsafe { std::str::from_utf8_unchecked(&self.text[..self.used[2]][from..to]) }
     }
 
     /// The root, or the refusal and its event.
@@ -138,7 +194,7 @@ impl<'b> Places<'b> {
         from: usize,
         to: usize,
         news: &[u32],
-        path: &Indexes,
+        path: &Place,
     ) -> Result<u32, Refusal> {
         let mut words = Words::default();
         // SAFETY: the places are the store's own and borrowed alone; path and words have the lengths that the header says.
@@ -181,7 +237,7 @@ impl<'b> Places<'b> {
         &self,
         code: usize,
         root: u32,
-        (path, other): (&mut Indexes, &mut Indexes),
+        (path, other): (&mut Place, &mut Place),
         depth: usize,
         operands: Words,
         words: &mut Words,
@@ -218,66 +274,68 @@ impl<'b> Places<'b> {
         prev_token notes_prev_token
     }
 
-    /// As the questions above; the answer's path is the beginning of this one.
+    /// The parent, or none at a root.
     #[inline]
-    pub fn parent(&self, root: u32, path: &mut Indexes, depth: usize, words: &mut Words) -> Result<usize, Refusal> {
+    pub fn parent(&self, root: u32, path: &Indexes) -> Answer {
         // SAFETY: the places are the store's own; path and words have the lengths that the header says.
-        judged(unsafe { read!(self, notes_parent(root as usize, path.as_ptr(), depth, words.as_mut_ptr())) })
+        unsafe { answer(path, |path, depth, words| read!(self, notes_parent(root as usize, path, depth, words))) }
     }
 
-    pub fn child_or_token_at_range(
-        &self,
-        root: u32,
-        path: &mut Indexes,
-        depth: usize,
-        (start, end): (usize, usize),
-        words: &mut Words,
-    ) -> Result<usize, Refusal> {
-        // SAFETY: the places are the store's own; path and words have the lengths that the header says.
-        judged(unsafe {
-            read!(
-                self,
-                notes_child_or_token_at_range(root as usize, path.as_mut_ptr(), depth, start, end, words.as_mut_ptr())
-            )
-        })
+    /// The element itself.
+    pub fn here(&self, root: u32, path: &Indexes) -> Answer {
+        let (mut other, operands) = ([0; 64], Words::default());
+        let (other, operands, code) = (other.as_mut_ptr(), operands.as_ptr(), ffi::HERE);
+        // SAFETY: the places are the store's own; the paths, operands and words have the lengths that the header says.
+        unsafe {
+            answer(path, |path, depth, words| {
+                read!(self, notes_query(root as usize, path, other, depth, code, operands, words))
+            })
+        }
     }
 
-    pub fn covering_element(
-        &self,
-        root: u32,
-        path: &mut Indexes,
-        depth: usize,
-        (start, end): (usize, usize),
-        words: &mut Words,
-    ) -> Result<usize, Refusal> {
+    pub fn child_or_token_at_range(&self, root: u32, path: &Indexes, range: TextRange) -> Answer {
+        let (start, end) = (range.start() as usize, range.end() as usize);
         // SAFETY: the places are the store's own; path and words have the lengths that the header says.
-        judged(unsafe {
-            read!(self, notes_covering_element(root as usize, path.as_mut_ptr(), depth, start, end, words.as_mut_ptr()))
-        })
+        unsafe {
+            answer(path, |path, depth, words| {
+                read!(self, notes_child_or_token_at_range(root as usize, path, depth, start, end, words))
+            })
+        }
+    }
+
+    pub fn covering_element(&self, root: u32, path: &Indexes, range: TextRange) -> Answer {
+        let (start, end) = (range.start() as usize, range.end() as usize);
+        // SAFETY: the places are the store's own; path and words have the lengths that the header says.
+        unsafe {
+            answer(path, |path, depth, words| {
+                read!(self, notes_covering_element(root as usize, path, depth, start, end, words))
+            })
+        }
     }
 
     pub fn token_at_offset(
         &self,
         root: u32,
-        (left, right): (&mut Indexes, &mut Indexes),
-        depth: usize,
-        offset: usize,
-        words: &mut Words,
-    ) -> Result<usize, Refusal> {
-        // SAFETY: the places are the store's own; the paths and words have the lengths that the header says.
-        judged(unsafe {
-            read!(
-                self,
-                notes_token_at_offset(
-                    root as usize,
-                    left.as_mut_ptr(),
-                    right.as_mut_ptr(),
-                    depth,
-                    offset,
-                    words.as_mut_ptr()
-                )
-            )
-        })
+        path: &Indexes,
+        offset: TextSize,
+    ) -> Result<TokenAtOffset<Found>, Refusal> {
+        let (mut left, mut right, mut words) = (Lent::new(), Lent::new(), Words::default());
+        left.set(path);
+        right.set(path);
+        // SAFETY: the places are the store's own; the paths and words have the lengths that the header says. The words are then
+        // those of a call that was lent these paths.
+        unsafe {
+            let (one, other, words_at) = (left.as_mut_ptr(), right.as_mut_ptr(), words.as_mut_ptr());
+            let depth = path.len();
+            let outcome =
+                read!(self, notes_token_at_offset(root as usize, one, other, depth, offset as usize, words_at));
+            let [first, second] = [&words[..4], &words[4..]];
+            Ok(match judged(outcome)? {
+                ffi::NONE => TokenAtOffset::None,
+                ffi::PAIR => TokenAtOffset::Between(Found::in_place(first, &left), Found::in_place(second, &right)),
+                _ => TokenAtOffset::Single(Found::in_place(first, &left)),
+            })
+        }
     }
 }
 
@@ -285,13 +343,13 @@ impl<'b> Places<'b> {
 #[derive(Clone)]
 pub(crate) struct Walk {
     state: [usize; 8],
-    path: Indexes,
+    path: Place,
 }
 
 impl Walk {
     /// A walk of the node at `path`.
-    pub fn new(places: &Places, root: u32, with_tokens: bool, path: Indexes, depth: usize) -> Result<Walk, Refusal> {
-        let mut walk = Walk { state: [0; 8], path };
+    pub fn new(places: &Places, root: u32, with_tokens: bool, path: &Indexes) -> Result<Walk, Refusal> {
+        let mut walk = Walk { state: [0; 8], path: path.to_place() };
         // SAFETY: the places are the store's own; path and state have the lengths that the header says.
         let outcome = unsafe {
             read!(
@@ -300,7 +358,7 @@ impl Walk {
                     root as usize,
                     usize::from(with_tokens),
                     walk.path.as_ptr(),
-                    depth,
+                    path.len(),
                     walk.state.as_mut_ptr()
                 )
             )
@@ -339,22 +397,17 @@ impl Walk {
 pub(crate) struct Chunks<'s> {
     places: &'s Places<'s>,
     root: u32,
-    path: &'s Indexes,
+    path: Place,
     depth: usize,
-    range: (usize, usize),
+    range: TextRange,
     state: [usize; 2],
-    place: Indexes,
+    place: Place,
 }
 
 impl<'s> Chunks<'s> {
-    pub fn new(
-        places: &'s Places<'s>,
-        root: u32,
-        path: &'s Indexes,
-        depth: usize,
-        range: (usize, usize),
-    ) -> Chunks<'s> {
-        Chunks { places, root, path, depth, range, state: [0; 2], place: [0; 64] }
+    /// Of the text at a range, in the node that the first `depth` indexes name.
+    pub fn new(places: &'s Places<'s>, root: u32, path: &Indexes, depth: usize, range: TextRange) -> Chunks<'s> {
+        Chunks { places, root, path: path.to_place(), depth, range, state: [0; 2], place: [0; 64] }
     }
 }
 
@@ -362,6 +415,7 @@ impl Iterator for Chunks<'_> {
     /// From and to, in the store's text.
     type Item = (usize, usize);
 
+    #[inline]
     fn next(&mut self) -> Option<(usize, usize)> {
         let mut words = Words::default();
         // SAFETY: the places are the store's own; state and place are those of this text, and all have the lengths that the
@@ -373,8 +427,8 @@ impl Iterator for Chunks<'_> {
                     self.root as usize,
                     self.path.as_ptr(),
                     self.depth,
-                    self.range.0,
-                    self.range.1,
+                    self.range.start() as usize,
+                    self.range.end() as usize,
                     self.state.as_mut_ptr(),
                     self.place.as_mut_ptr(),
                     words.as_mut_ptr()

@@ -34,6 +34,7 @@ mod calls;
 mod cursor;
 mod ffi;
 mod green;
+mod indexes;
 mod refusal;
 mod syntax_text;
 mod utility_types;

@@ -9,6 +9,7 @@ use crate::{
     calls::{Chunks, Words},
     cursor::{Handle, SyntaxNode},
     ffi,
+    indexes::Place,
     refusal::Refusal,
     utility_types::{TextRange, TextSize},
 };
@@ -129,15 +130,16 @@ impl<'s> SyntaxText<'s> {
     }
 
     fn chunks(&self) -> impl Iterator<Item = &str> {
-        let Handle { store, root, depth, ref path, .. } = self.node.0;
-        let chunks = Chunks::new(&store.places, root, path, depth, self.ends());
+        let Handle { store, root, ref at } = self.node.0;
+        let chunks = Chunks::new(&store.places, root, &at.path, at.path.len(), self.range);
         chunks.map(|(from, to)| store.places.text(from, to))
     }
 
     /// Puts a question of this text's node, with the other text's path if there are two.
-    fn put(&self, code: usize, operands: Words, other: &mut [u32; 64], words: &mut Words) -> Result<usize, Refusal> {
-        let Handle { store, root, depth, mut path, .. } = self.node.0;
-        store.places.query(code, root, (&mut path, other), depth, operands, words)
+    fn put(&self, code: usize, operands: Words, other: &mut Place, words: &mut Words) -> Result<usize, Refusal> {
+        let Handle { store, root, ref at } = self.node.0;
+        let paths = (&mut at.path.to_place(), other);
+        store.places.query(code, root, paths, at.path.len(), operands, words)
     }
 
     fn ask(&self, code: usize, operand: usize, words: &mut Words) -> usize {
@@ -148,15 +150,15 @@ impl<'s> SyntaxText<'s> {
 
 impl PartialEq for SyntaxText<'_> {
     fn eq(&self, other: &SyntaxText<'_>) -> bool {
-        let Handle { store, root, depth, mut path, .. } = other.node.0;
+        let Handle { store, root, ref at } = other.node.0;
         if self.node.0.store.id != store.id {
             // No call takes two stores.
             return self.len() == other.len()
                 && self.chunks().flat_map(str::bytes).eq(other.chunks().flat_map(str::bytes));
         }
         let ((start, end), (other_start, other_end)) = (self.ends(), other.ends());
-        let operands = [start, end, root as usize, depth, other_start, other_end, 0, 0];
-        self.put(ffi::EQUAL_TEXT, operands, &mut path, &mut Words::default()).expect(WITHIN) == ffi::YES
+        let operands = [start, end, root as usize, at.path.len(), other_start, other_end, 0, 0];
+        self.put(ffi::EQUAL_TEXT, operands, &mut at.path.to_place(), &mut Words::default()).expect(WITHIN) == ffi::YES
     }
 }
 

@@ -1,8 +1,10 @@
 //! Document 01's cases, with the values that the paper gives.
 
+use std::iter;
+
 use notes_tree::{
     BuildError, GreenElement, GreenNode, GreenNodeBuilder, GreenToken, NodeOrToken, Refusal, Store, SyntaxKind,
-    SyntaxNode, TextRange, TokenAtOffset, WalkEvent,
+    SyntaxNode, SyntaxToken, TextRange, TokenAtOffset, WalkEvent,
 };
 
 fn kind(number: u16) -> SyntaxKind {
@@ -344,6 +346,43 @@ fn handles() {
     assert_eq!(back.map(|it| it.index()).collect::<Vec<_>>(), [1, 0]);
     assert_eq!(root.where_is(blank.green()).unwrap().unwrap().indexes(), [1]);
     assert_eq!(format!("{root:?}"), "SyntaxNode { kind: SyntaxKind(1), text_range: 0..5 }");
+}
+
+/// Handles keep short paths and long ones in different ways; 64 is the highest tree.
+#[test]
+fn paths_of_every_depth() {
+    const DEEP: usize = 64;
+    let mut store = Store::new();
+    let mut builder = GreenNodeBuilder::new();
+    let text = |level: usize| level.to_string();
+    for level in 0..DEEP {
+        builder.start_node(kind(1));
+        builder.token(kind(2), &text(level));
+    }
+    for _ in 0..DEEP {
+        builder.token(kind(3), "end");
+        builder.finish_node();
+    }
+    let green = builder.finish(&mut store).unwrap();
+    let root = root(&store, green);
+    let mut token = root.first_token().unwrap();
+    for level in 0..DEEP {
+        assert_eq!((token.text(), token.index()), (text(level).as_str(), 0));
+        let indexes: Vec<u32> = [1].repeat(level).into_iter().chain([0]).collect();
+        assert_eq!(token.path().indexes(), indexes);
+        assert_eq!(token.path().element(&store).unwrap(), NodeOrToken::Token(token.clone()));
+        assert_eq!(token.ancestors().count(), level + 1);
+        token = token.next_token().unwrap();
+    }
+    assert_eq!(token.ancestors().count(), DEEP);
+    assert_eq!(iter::successors(Some(token), SyntaxToken::next_token).count(), DEEP);
+    let walked: Vec<String> = root.descendants_with_tokens().map(|it| it.path().indexes().len().to_string()).collect();
+    let down = (0..DEEP).flat_map(|level| [level, level + 1]);
+    let up = (1..=DEEP).rev();
+    assert_eq!(walked, down.chain(up).map(text).collect::<Vec<_>>());
+    // The lowest number, after ten of one digit and 53 of two.
+    let lowest = root.covering_element(TextRange::new(116, 118)).unwrap();
+    assert_eq!((lowest.to_string(), lowest.ancestors().count()), (text(DEEP - 1), DEEP));
 }
 
 #[test]

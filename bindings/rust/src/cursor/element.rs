@@ -36,16 +36,19 @@ macro_rules! either {
 
 impl<'s> SyntaxElement<'s> {
     /// The element's kind. No call.
+    #[inline]
     pub fn kind(&self) -> SyntaxKind {
         either!(self, kind)
     }
 
     /// The element's range, counted from where its root starts. No call.
+    #[inline]
     pub fn text_range(&self) -> TextRange {
         either!(self, text_range)
     }
 
     /// Which child of its parent it is; 0 for a root. No call.
+    #[inline]
     pub fn index(&self) -> usize {
         either!(self, index)
     }
@@ -64,6 +67,7 @@ impl<'s> SyntaxElement<'s> {
     }
 
     /// The parent, or none at a root.
+    #[inline]
     pub fn parent(&self) -> Option<SyntaxNode<'s>> {
         either!(self, parent)
     }
@@ -99,11 +103,13 @@ impl<'s> SyntaxElement<'s> {
     }
 
     /// The next sibling.
+    #[inline]
     pub fn next_sibling_or_token(&self) -> Option<SyntaxElement<'s>> {
         either!(self, next_sibling_or_token)
     }
 
     /// The previous sibling.
+    #[inline]
     pub fn prev_sibling_or_token(&self) -> Option<SyntaxElement<'s>> {
         either!(self, prev_sibling_or_token)
     }

@@ -3,13 +3,13 @@
 use std::{fmt, iter};
 
 use crate::{
-    calls::{Places, Words},
+    calls::Places,
     cursor::{path::where_is, Handle, Preorder, PreorderWithTokens, SyntaxElement, SyntaxPath, SyntaxToken},
-    ffi,
     green::{GreenElement, GreenNode, Store},
+    indexes::Indexes,
     refusal::Refusal,
     syntax_text::SyntaxText,
-    utility_types::{Direction, TextRange, TextSize, TokenAtOffset, WalkEvent},
+    utility_types::{Direction, TextRange, TextSize, TokenAtOffset},
     SyntaxKind,
 };
 
@@ -21,20 +21,20 @@ impl<'s> SyntaxNode<'s> {
     /// The root of the tree of `green`. [`Refusal::NoSuchElement`] if that is of another store.
     pub fn new_root(store: &'s Store<'s>, green: GreenNode) -> Result<SyntaxNode<'s>, Refusal> {
         let root = store.own(green.into())?;
-        let root = Handle::at(store, root, 0, [0; 64])?;
+        let root = Handle::at(store, root, &Indexes::NONE)?;
         root.into_node().ok_or(Refusal::NoSuchElement)
     }
 
     /// The node's kind. No call.
     #[inline]
     pub fn kind(&self) -> SyntaxKind {
-        self.0.kind
+        self.0.at.kind
     }
 
     /// The node's range, counted from where its root starts. No call.
     #[inline]
     pub fn text_range(&self) -> TextRange {
-        self.0.range
+        self.0.at.range
     }
 
     /// Which child of its parent it is; 0 for a root. No call.
@@ -69,8 +69,9 @@ impl<'s> SyntaxNode<'s> {
     }
 
     /// The parent, or none at a root.
+    #[inline]
     pub fn parent(&self) -> Option<SyntaxNode<'s>> {
-        self.0.step_to_node(Places::parent)
+        self.0.step(Places::parent)?.into_node()
     }
 
     /// This node, its parent, and on up to the root.
@@ -94,53 +95,63 @@ impl<'s> SyntaxNode<'s> {
     }
 
     /// The first child that is a node.
+    #[inline]
     pub fn first_child(&self) -> Option<SyntaxNode<'s>> {
-        self.0.step_to_node(Places::first_child)
+        self.0.step(Places::first_child)?.into_node()
     }
 
     /// The last child that is a node.
+    #[inline]
     pub fn last_child(&self) -> Option<SyntaxNode<'s>> {
-        self.0.step_to_node(Places::last_child)
+        self.0.step(Places::last_child)?.into_node()
     }
 
     /// The first child.
+    #[inline]
     pub fn first_child_or_token(&self) -> Option<SyntaxElement<'s>> {
         self.0.step(Places::first_child_or_token)
     }
 
     /// The last child.
+    #[inline]
     pub fn last_child_or_token(&self) -> Option<SyntaxElement<'s>> {
         self.0.step(Places::last_child_or_token)
     }
 
     /// The next sibling that is a node.
+    #[inline]
     pub fn next_sibling(&self) -> Option<SyntaxNode<'s>> {
-        self.0.step_to_node(Places::next_sibling)
+        self.0.step(Places::next_sibling)?.into_node()
     }
 
     /// The previous sibling that is a node.
+    #[inline]
     pub fn prev_sibling(&self) -> Option<SyntaxNode<'s>> {
-        self.0.step_to_node(Places::prev_sibling)
+        self.0.step(Places::prev_sibling)?.into_node()
     }
 
     /// The next sibling.
+    #[inline]
     pub fn next_sibling_or_token(&self) -> Option<SyntaxElement<'s>> {
         self.0.step(Places::next_sibling_or_token)
     }
 
     /// The previous sibling.
+    #[inline]
     pub fn prev_sibling_or_token(&self) -> Option<SyntaxElement<'s>> {
         self.0.step(Places::prev_sibling_or_token)
     }
 
     /// The token at the end of first children. None if that is a node without children: it looks no further, as in rowan.
+    #[inline]
     pub fn first_token(&self) -> Option<SyntaxToken<'s>> {
-        self.0.step_to_token(Places::first_token)
+        self.0.step(Places::first_token)?.into_token()
     }
 
     /// The token at the end of last children, in the same way.
+    #[inline]
     pub fn last_token(&self) -> Option<SyntaxToken<'s>> {
-        self.0.step_to_token(Places::last_token)
+        self.0.step(Places::last_token)?.into_token()
     }
 
     /// This node, then its siblings that are nodes, one way.
@@ -158,18 +169,12 @@ impl<'s> SyntaxNode<'s> {
 
     /// This node and the nodes below it, in preorder.
     pub fn descendants(&self) -> impl Iterator<Item = SyntaxNode<'s>> {
-        self.preorder().filter_map(|event| match event {
-            WalkEvent::Enter(node) => Some(node),
-            WalkEvent::Leave(_) => None,
-        })
+        self.preorder().entered()
     }
 
     /// This node and all elements below it, in preorder.
     pub fn descendants_with_tokens(&self) -> impl Iterator<Item = SyntaxElement<'s>> {
-        self.preorder_with_tokens().filter_map(|event| match event {
-            WalkEvent::Enter(element) => Some(element),
-            WalkEvent::Leave(_) => None,
-        })
+        self.preorder_with_tokens().entered()
     }
 
     /// The walk of this node and the nodes below it.
@@ -184,34 +189,21 @@ impl<'s> SyntaxNode<'s> {
 
     /// The nonempty tokens whose closed range holds the offset. [`Refusal::Outside`] if it is outside of the node.
     pub fn token_at_offset(&self, offset: TextSize) -> Result<TokenAtOffset<SyntaxToken<'s>>, Refusal> {
-        let Handle { store, root, depth, .. } = self.0;
-        let (mut left, mut right, mut words) = (self.0.clone(), self.0.clone(), Words::default());
-        let paths = (&mut left.path, &mut right.path);
-        let outcome = store.places.token_at_offset(root, paths, depth, offset as usize, &mut words)?;
-        let token = |mut handle: Handle<'s>, words: &[usize]| {
-            handle.arrive(words);
-            SyntaxToken(handle)
-        };
-        Ok(match outcome {
-            ffi::NONE => TokenAtOffset::None,
-            ffi::PAIR => TokenAtOffset::Between(token(left, &words[..4]), token(right, &words[4..])),
-            _ => TokenAtOffset::Single(token(left, &words[..4])),
-        })
+        let Handle { store, root, ref at } = self.0;
+        let found = store.places.token_at_offset(root, &at.path, offset)?;
+        Ok(found.map(|at| SyntaxToken(self.0.to(at))))
     }
 
     /// The lowest element that covers the range; of two at an empty range, the left one. [`Refusal::Outside`] if the range is
     /// not within the node.
     pub fn covering_element(&self, range: TextRange) -> Result<SyntaxElement<'s>, Refusal> {
-        let range = (range.start() as usize, range.end() as usize);
-        let found =
-            self.0.ask(|places, root, path, depth, words| places.covering_element(root, path, depth, range, words))?;
+        let found = self.0.ask(|places, root, path| places.covering_element(root, path, range))?;
         Ok(found.expect("a node covers what is within it"))
     }
 
     /// The child that contains the range, if there is one. [`Refusal::Outside`] if the range starts before the node.
     pub fn child_or_token_at_range(&self, range: TextRange) -> Result<Option<SyntaxElement<'s>>, Refusal> {
-        let range = (range.start() as usize, range.end() as usize);
-        self.0.ask(|places, root, path, depth, words| places.child_or_token_at_range(root, path, depth, range, words))
+        self.0.ask(|places, root, path| places.child_or_token_at_range(root, path, range))
     }
 }
 
@@ -244,6 +236,7 @@ pub struct SyntaxNodeChildren<'s> {
 impl<'s> Iterator for SyntaxNodeChildren<'s> {
     type Item = SyntaxNode<'s>;
 
+    #[inline]
     fn next(&mut self) -> Option<SyntaxNode<'s>> {
         let next = self.next.take()?;
         self.next = next.next_sibling();
@@ -260,6 +253,7 @@ pub struct SyntaxElementChildren<'s> {
 impl<'s> Iterator for SyntaxElementChildren<'s> {
     type Item = SyntaxElement<'s>;
 
+    #[inline]
     fn next(&mut self) -> Option<SyntaxElement<'s>> {
         let next = self.next.take()?;
         self.next = next.next_sibling_or_token();

@@ -1,10 +1,11 @@
 //! Places in trees that outlast a borrow of the store.
 
 use crate::{
-    calls::{Indexes, Words},
+    calls::Words,
     cursor::{Handle, SyntaxElement},
     ffi,
     green::{GreenElement, GreenNode, Store},
+    indexes::Indexes,
     refusal::Refusal,
 };
 
@@ -13,16 +14,16 @@ use crate::{
 #[derive(Debug, Clone)]
 pub struct SyntaxPath {
     pub(crate) root: GreenNode,
-    pub(crate) depth: usize,
     pub(crate) indexes: Indexes,
 }
 
 impl SyntaxPath {
     /// The path of these child indexes. [`Refusal::NoSuchElement`] if there are more than 64: no tree is higher.
     pub fn new(root: GreenNode, indexes: &[u32]) -> Result<SyntaxPath, Refusal> {
-        let mut path = SyntaxPath { root, depth: indexes.len(), indexes: [0; 64] };
-        path.indexes.get_mut(..indexes.len()).ok_or(Refusal::NoSuchElement)?.copy_from_slice(indexes);
-        Ok(path)
+        match indexes.len() {
+            0..=64 => Ok(SyntaxPath { root, indexes: Indexes::new(indexes) }),
+            _ => Err(Refusal::NoSuchElement),
+        }
     }
 
     /// The root.
@@ -32,7 +33,7 @@ impl SyntaxPath {
 
     /// The child indexes, from the root's down.
     pub fn indexes(&self) -> &[u32] {
-        &self.indexes[..self.depth]
+        &self.indexes
     }
 
     /// The same indexes in another tree, as that which an edit has answered.
@@ -43,7 +44,7 @@ impl SyntaxPath {
     /// The element there. [`Refusal::NoSuchElement`] if there is none.
     pub fn element<'s>(&self, store: &'s Store<'s>) -> Result<SyntaxElement<'s>, Refusal> {
         let root = store.own(self.root.into())?;
-        Handle::at(store, root, self.depth, self.indexes)
+        Handle::at(store, root, &self.indexes)
     }
 
     /// Makes a tree like this one with `replacement` in this element's place, and answers its root. rowan's
@@ -72,7 +73,8 @@ impl SyntaxPath {
     pub fn replace_with(&self, store: &mut Store, replacement: impl Into<GreenElement>) -> Result<GreenNode, Refusal> {
         let root = store.own(self.root.into())?;
         let replacement = store.own(replacement.into())? as usize;
-        let made = store.places.edit(ffi::REPLACE_WITH, root, self.depth, replacement, &[], &self.indexes)?;
+        let (depth, path) = (self.indexes.len(), self.indexes.to_place());
+        let made = store.places.edit(ffi::REPLACE_WITH, root, depth, replacement, &[], &path)?;
         Ok(GreenNode::named(store, made))
     }
 }
@@ -80,11 +82,9 @@ impl SyntaxPath {
 /// The path of an occurrence of an element under a root.
 pub(crate) fn where_is(store: &Store, root: GreenNode, element: GreenElement) -> Result<Option<SyntaxPath>, Refusal> {
     let number = store.own(element)? as usize;
-    let mut path = SyntaxPath { root, depth: 0, indexes: [0; 64] };
-    let (mut other, mut words) = ([0; 64], Words::default());
+    let (mut path, mut words) = ([0; 64], Words::default());
     let operands = [number, 0, 0, 0, 0, 0, 0, 0];
-    let paths = (&mut path.indexes, &mut other);
+    let paths = (&mut path, &mut [0; 64]);
     let outcome = store.places.query(ffi::WHERE_IS, root.number, paths, 0, operands, &mut words)?;
-    path.depth = words[0];
-    Ok((outcome == ffi::PATH).then_some(path))
+    Ok((outcome == ffi::PATH).then(|| SyntaxPath { root, indexes: Indexes::new(&path[..words[0]]) }))
 }

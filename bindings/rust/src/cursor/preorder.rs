@@ -1,10 +1,11 @@
 //! Both walks, fed by the call that gives many events at once.
 
-use std::fmt;
+use std::{fmt, iter};
 
 use crate::{
-    calls::{Event, Walk},
+    calls::{Event, Found, Walk},
     cursor::{Handle, SyntaxElement, SyntaxNode, SyntaxToken},
+    indexes::{Indexes, Place},
     refusal::Refusal,
     utility_types::{NodeOrToken, WalkEvent},
 };
@@ -12,17 +13,30 @@ use crate::{
 /// The most events that one call gives.
 const MANY: usize = 32;
 
-/// What an event is, beside its element.
-struct Step {
+/// An event.
+struct Step<'s> {
     is_leave: bool,
     is_node: bool,
+    handle: Handle<'s>,
+}
+
+impl<'s> Step<'s> {
+    #[inline]
+    fn element(self) -> SyntaxElement<'s> {
+        match self.is_node {
+            true => NodeOrToken::Node(SyntaxNode(self.handle)),
+            false => NodeOrToken::Token(SyntaxToken(self.handle)),
+        }
+    }
 }
 
 /// A walk and the events that it has given ahead of its reader.
 #[derive(Clone)]
 struct Ahead<'s> {
-    /// The last element, whose path the next event's is a step away from.
-    at: Handle<'s>,
+    /// The node that is walked.
+    start: Handle<'s>,
+    /// The path of the last event's element, which the next one's is a step away from.
+    path: Place,
     /// The walk before those events, and after them.
     before: Walk,
     after: Walk,
@@ -37,11 +51,12 @@ struct Ahead<'s> {
 
 impl<'s> Ahead<'s> {
     fn new(start: &SyntaxNode<'s>, with_tokens: bool) -> Ahead<'s> {
-        let at = start.0.clone();
-        let walk = Walk::new(&at.store.places, at.root, with_tokens, at.path, at.depth);
+        let start = start.0.clone();
+        let walk = Walk::new(&start.store.places, start.root, with_tokens, &start.at.path);
         let walk = walk.expect("a handle names a node of its store");
         Ahead {
-            at,
+            path: start.at.path.to_place(),
+            start,
             before: walk.clone(),
             after: walk,
             events: [[0; 7]; MANY],
@@ -55,29 +70,61 @@ impl<'s> Ahead<'s> {
     /// Moves the walk on from `before`, by as many events as there are asked for.
     fn walk_on(&mut self, count: usize) {
         self.after = self.before.clone();
-        let given = self.after.next_many(&self.at.store.places, &mut self.events[..count]);
+        let given = self.after.next_many(&self.start.store.places, &mut self.events[..count]);
         self.given = given.expect("a walk's store does not change under it");
         self.has_ended = self.given < count;
     }
 
-    /// Goes to the next event's element. None at the walk's end.
-    fn advance(&mut self) -> Option<Step> {
-        if self.taken == self.given {
-            if self.has_ended {
-                return None;
-            }
+    /// Asks for events; none may be left.
+    fn refill(&mut self) {
+        if !self.has_ended {
             self.before = self.after.clone();
             self.taken = 0;
             self.walk_on(self.at_most);
             self.at_most = MANY.min(self.at_most * 2);
         }
-        let [is_leave, is_node, kind, depth, index, start, end] = *self.events[..self.given].get(self.taken)?;
-        self.taken += 1;
-        if let Some(last) = (depth as usize).checked_sub(1) {
-            self.at.path[last] = index as u32;
+    }
+
+    /// The next event's words. None at the walk's end.
+    #[inline]
+    fn event(&mut self) -> Option<Event> {
+        if self.taken == self.given {
+            self.refill();
         }
-        self.at.arrive(&[start as usize, end as usize, depth as usize, kind as usize]);
-        Some(Step { is_leave: is_leave == 1, is_node: is_node == 1 })
+        let event = *self.events[..self.given].get(self.taken)?;
+        self.taken += 1;
+        Some(event)
+    }
+
+    /// The element of an event that comes next.
+    #[inline]
+    fn arrive(&mut self, [_, _, kind, depth, index, start, end]: Event) -> Handle<'s> {
+        let depth = depth as usize;
+        if let Some(last) = depth.checked_sub(1) {
+            self.path[last] = index as u32;
+        }
+        let path = Indexes::new(&self.path[..depth]);
+        self.start.to(Found::new(&[start as usize, end as usize, depth, kind as usize], path))
+    }
+
+    /// The next event. None at the walk's end.
+    #[inline]
+    fn advance(&mut self) -> Option<Step<'s>> {
+        let event = self.event()?;
+        let [is_leave, is_node, ..] = event;
+        Some(Step { is_leave: is_leave == 1, is_node: is_node == 1, handle: self.arrive(event) })
+    }
+
+    /// The next element that is entered. No handle is made of one that is left.
+    #[inline]
+    fn enter(&mut self) -> Option<Step<'s>> {
+        loop {
+            let event = self.event()?;
+            let [is_leave, is_node, ..] = event;
+            if is_leave == 0 {
+                return Some(Step { is_leave: false, is_node: is_node == 1, handle: self.arrive(event) });
+            }
+        }
     }
 
     /// Takes back what was given ahead, and skips where the reader is.
@@ -130,6 +177,11 @@ impl<'s> Preorder<'s> {
         Preorder(Ahead::new(start, false))
     }
 
+    /// The nodes alone, as they are entered.
+    pub(super) fn entered(mut self) -> impl Iterator<Item = SyntaxNode<'s>> {
+        iter::from_fn(move || self.0.enter().map(|step| SyntaxNode(step.handle)))
+    }
+
     /// Turns a coming Enter into Leave of that node's parent. After an Enter this passes over the node's children, after a
     /// Leave over its later siblings. [`Refusal::SkipTooEarly`] before the first event.
     pub fn skip_subtree(&mut self) -> Result<(), Refusal> {
@@ -142,12 +194,10 @@ impl<'s> Iterator for Preorder<'s> {
 
     #[inline]
     fn next(&mut self) -> Option<WalkEvent<SyntaxNode<'s>>> {
-        let step = self.0.advance()?;
-        let at = &self.0.at;
-        // Each made where it is returned, so the path is copied once.
-        match step.is_leave {
-            false => Some(WalkEvent::Enter(SyntaxNode(at.clone()))),
-            true => Some(WalkEvent::Leave(SyntaxNode(at.clone()))),
+        let Step { is_leave, handle, .. } = self.0.advance()?;
+        match is_leave {
+            false => Some(WalkEvent::Enter(SyntaxNode(handle))),
+            true => Some(WalkEvent::Leave(SyntaxNode(handle))),
         }
     }
 }
@@ -159,6 +209,11 @@ pub struct PreorderWithTokens<'s>(Ahead<'s>);
 impl<'s> PreorderWithTokens<'s> {
     pub(super) fn new(start: &SyntaxNode<'s>) -> PreorderWithTokens<'s> {
         PreorderWithTokens(Ahead::new(start, true))
+    }
+
+    /// The elements alone, as they are entered.
+    pub(super) fn entered(mut self) -> impl Iterator<Item = SyntaxElement<'s>> {
+        iter::from_fn(move || self.0.enter().map(Step::element))
     }
 
     /// Turns a coming Enter into Leave of that element's parent: as of [`Preorder`].
@@ -173,24 +228,21 @@ impl<'s> Iterator for PreorderWithTokens<'s> {
     #[inline]
     fn next(&mut self) -> Option<WalkEvent<SyntaxElement<'s>>> {
         let step = self.0.advance()?;
-        let at = &self.0.at;
-        match (step.is_leave, step.is_node) {
-            (false, true) => Some(WalkEvent::Enter(NodeOrToken::Node(SyntaxNode(at.clone())))),
-            (false, false) => Some(WalkEvent::Enter(NodeOrToken::Token(SyntaxToken(at.clone())))),
-            (true, true) => Some(WalkEvent::Leave(NodeOrToken::Node(SyntaxNode(at.clone())))),
-            (true, false) => Some(WalkEvent::Leave(NodeOrToken::Token(SyntaxToken(at.clone())))),
+        match step.is_leave {
+            false => Some(WalkEvent::Enter(step.element())),
+            true => Some(WalkEvent::Leave(step.element())),
         }
     }
 }
 
 impl fmt::Debug for Preorder<'_> {
     fn fmt(&self, f: &mut fmt::Formatter<'_>) -> fmt::Result {
-        self.0.at.debug("Preorder", f)
+        self.0.start.debug("Preorder", f)
     }
 }
 
 impl fmt::Debug for PreorderWithTokens<'_> {
     fn fmt(&self, f: &mut fmt::Formatter<'_>) -> fmt::Result {
-        self.0.at.debug("PreorderWithTokens", f)
+        self.0.start.debug("PreorderWithTokens", f)
     }
 }

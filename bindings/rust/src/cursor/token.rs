@@ -3,7 +3,7 @@
 use std::{fmt, iter};
 
 use crate::{
-    calls::{Chunks, Places},
+    calls::{Chunks, Found, Places},
     cursor::{Handle, SyntaxElement, SyntaxNode, SyntaxPath},
     green::GreenToken,
     utility_types::{Direction, TextRange},
@@ -18,13 +18,13 @@ impl<'s> SyntaxToken<'s> {
     /// The token's kind. No call.
     #[inline]
     pub fn kind(&self) -> SyntaxKind {
-        self.0.kind
+        self.0.at.kind
     }
 
     /// The token's range, counted from where its root starts. No call.
     #[inline]
     pub fn text_range(&self) -> TextRange {
-        self.0.range
+        self.0.at.range
     }
 
     /// Which child of its parent it is. No call.
@@ -35,12 +35,15 @@ impl<'s> SyntaxToken<'s> {
 
     /// The token's text, in the store's own bytes.
     pub fn text(&self) -> &'s str {
-        let Handle { store, root, depth, range, ref path, .. } = self.0;
-        let range = (range.start() as usize, range.end() as usize);
-        // Of the parent's text this is the one chunk that is not empty; neighbours touch it with empty ones.
-        let mut chunks = Chunks::new(&store.places, root, path, depth - 1, range);
-        let found = chunks.find(|(from, to)| from < to);
-        found.map_or("", |(from, to)| store.places.text(from, to))
+        let Handle { store, root, at: Found { range, ref path, .. } } = self.0;
+        if range.is_empty() {
+            return "";
+        }
+        // Of the parent's tokens those before this one end where it starts, so that it is the first to touch its own end.
+        let end = TextRange::empty(range.end());
+        let mut chunks = Chunks::new(&store.places, root, path, path.len() - 1, end);
+        let (to, _) = chunks.next().expect("a token touches its own end");
+        store.places.text(to - range.len() as usize, to)
     }
 
     /// The token's record.
@@ -54,8 +57,9 @@ impl<'s> SyntaxToken<'s> {
     }
 
     /// The parent, which every token has.
+    #[inline]
     pub fn parent(&self) -> Option<SyntaxNode<'s>> {
-        self.0.step_to_node(Places::parent)
+        self.0.step(Places::parent)?.into_node()
     }
 
     /// The parent, its parent, and on up to the root.
@@ -69,11 +73,13 @@ impl<'s> SyntaxToken<'s> {
     }
 
     /// The next sibling.
+    #[inline]
     pub fn next_sibling_or_token(&self) -> Option<SyntaxElement<'s>> {
         self.0.step(Places::next_sibling_or_token)
     }
 
     /// The previous sibling.
+    #[inline]
     pub fn prev_sibling_or_token(&self) -> Option<SyntaxElement<'s>> {
         self.0.step(Places::prev_sibling_or_token)
     }
@@ -87,13 +93,13 @@ impl<'s> SyntaxToken<'s> {
     /// no first token: it looks no further, as in rowan.
     #[inline]
     pub fn next_token(&self) -> Option<SyntaxToken<'s>> {
-        self.0.step_to_token(Places::next_token)
+        self.0.step(Places::next_token)?.into_token()
     }
 
     /// The last token of what comes before, in the same way.
     #[inline]
     pub fn prev_token(&self) -> Option<SyntaxToken<'s>> {
-        self.0.step_to_token(Places::prev_token)
+        self.0.step(Places::prev_token)?.into_token()
     }
 }
 
