@@ -8,6 +8,27 @@ enum Event {
     Finish,
 }
 
+/// Drives either builder by a sheet's bytes.
+macro_rules! events {
+    ($sheet:expr, $builder:ident, $kind:path) => {
+        let count = $sheet.number(0) as usize;
+        let mut at = 0;
+        for event in 0..count {
+            let word = $sheet.number(8 + 4 * event);
+            let kind = $kind(word as u16);
+            match word >> 16 {
+                1 => {
+                    let end = at + $sheet.number(8 + 4 * count + 4 * event) as usize;
+                    $builder.token(kind, std::str::from_utf8(&$sheet.text[at..end]).unwrap());
+                    at = end;
+                }
+                2 => $builder.start_node(kind),
+                _ => $builder.finish_node(),
+            }
+        }
+    };
+}
+
 /// A sheet's bytes and its text.
 #[derive(Clone)]
 pub struct Sheet {
@@ -44,23 +65,16 @@ impl Sheet {
 
     /// rowan's builder, driven by the bytes that the library reads.
     pub fn build(&self, cache: &mut NodeCache) -> GreenNode {
-        let count = self.number(0) as usize;
         let mut builder = GreenNodeBuilder::with_cache(cache);
-        let mut at = 0;
-        for event in 0..count {
-            let word = self.number(8 + 4 * event);
-            let kind = SyntaxKind(word as u16);
-            match word >> 16 {
-                1 => {
-                    let end = at + self.number(8 + 4 * count + 4 * event) as usize;
-                    builder.token(kind, std::str::from_utf8(&self.text[at..end]).unwrap());
-                    at = end;
-                }
-                2 => builder.start_node(kind),
-                _ => builder.finish_node(),
-            }
-        }
+        events!(self, builder, SyntaxKind);
         builder.finish()
+    }
+
+    /// The Rust crate's builder, likewise.
+    pub fn build_in(&self, store: &mut notes_tree::Store) -> notes_tree::GreenNode {
+        let mut builder = notes_tree::GreenNodeBuilder::new();
+        events!(self, builder, notes_tree::SyntaxKind);
+        builder.finish(store).expect("the sheets are in order and fit")
     }
 }
 

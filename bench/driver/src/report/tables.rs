@@ -34,9 +34,9 @@ fn output(program: &str, arguments: &[&str]) -> String {
 }
 
 /// A column for each tree: the ratio, and the nanoseconds of both.
-pub fn ratios(rows: &[Row], trees: &[&str]) -> String {
+pub fn ratios(specs: &[Spec], rows: &[Row], trees: &[&str]) -> String {
     let mut table = head(&["", "a unit"], trees);
-    for spec in &SPECS {
+    for spec in specs {
         let cells = trees.iter().map(|tree| match find(rows, spec.key, tree) {
             Some(row) => format!("**{:.2}** ({} / {})", row.ratio, figure(row.rowan), figure(row.ours)),
             None => String::new(),

@@ -3,6 +3,7 @@
 mod builds;
 mod edits;
 mod elements;
+mod handles;
 mod places;
 mod texts;
 mod tokens;
@@ -47,6 +48,16 @@ pub const SPECS: [Spec; 23] = [
     Spec { key: "where_is", title: "where-is, random elements", unit: "call" },
 ];
 
+/// The rows of the Rust crate's handles.
+pub const HANDLES: [Spec; 6] = [
+    Spec { key: "crate_walk", title: "descendants_with_tokens", unit: "element" },
+    Spec { key: "crate_children", title: "children_with_tokens of every node", unit: "element" },
+    Spec { key: "crate_next_token", title: "next_token, all tokens", unit: "call" },
+    Spec { key: "crate_text", title: "text of every token, in a walk", unit: "token" },
+    Spec { key: "crate_chunks", title: "for_each_chunk", unit: "chunk" },
+    Spec { key: "crate_find", title: "find_char, not there", unit: "token" },
+];
+
 /// Every row that is wanted, on one tree.
 pub fn all(case: &Case, bench: &mut Bench) {
     builds(case.name, &case.sheet, bench);
@@ -56,6 +67,7 @@ pub fn all(case: &Case, bench: &mut Bench) {
     elements::rows(case, bench);
     edits::rows(case, bench);
     texts::rows(case, bench);
+    handles::rows(case, bench);
 }
 
 /// An element's range and kind in one number.
