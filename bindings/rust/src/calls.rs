@@ -339,6 +339,63 @@ impl<'b> Places<'b> {
     }
 }
 
+/// The children of a node, one after the other: the last answer's place and words, in which the next question is put.
+#[derive(Clone)]
+pub(crate) struct Children<'s> {
+    places: &'s Places<'s>,
+    root: u32,
+    with_tokens: bool,
+    place: Place,
+    words: Words,
+    outcome: usize,
+}
+
+impl<'s> Children<'s> {
+    pub fn new(places: &'s Places<'s>, root: u32, path: &Indexes, with_tokens: bool) -> Children<'s> {
+        let (mut place, mut words) = (path.to_place(), Words::default());
+        let (root_number, path_at, depth, words_at) =
+            (root as usize, place.as_mut_ptr(), path.len(), words.as_mut_ptr());
+        // SAFETY: the places are the store's own; path and words have the lengths that the header says.
+        let outcome = unsafe {
+            match with_tokens {
+                true => read!(places, notes_first_child_or_token(root_number, path_at, depth, words_at)),
+                false => read!(places, notes_first_child(root_number, path_at, depth, words_at)),
+            }
+        };
+        Children { places, root, with_tokens, place, words, outcome }
+    }
+
+    /// Goes to the next sibling.
+    #[inline]
+    fn advance(&mut self) {
+        let (root, path, depth, words) =
+            (self.root as usize, self.place.as_mut_ptr(), self.words[2], self.words.as_mut_ptr());
+        // SAFETY: the places are the store's own; path and words have the lengths that the header says.
+        self.outcome = unsafe {
+            match self.with_tokens {
+                true => read!(self.places, notes_next_sibling_or_token(root, path, depth, words)),
+                false => read!(self.places, notes_next_sibling(root, path, depth, words)),
+            }
+        };
+    }
+}
+
+impl Iterator for Children<'_> {
+    type Item = NodeOrToken<Found, Found>;
+
+    #[inline]
+    fn next(&mut self) -> Option<NodeOrToken<Found, Found>> {
+        let is_node = match self.outcome {
+            ffi::NODE => true,
+            ffi::TOKEN => false,
+            _ => return None,
+        };
+        let found = Found::new(&self.words, Indexes::new(&self.place[..self.words[2]]));
+        self.advance();
+        Some(if is_node { NodeOrToken::Node(found) } else { NodeOrToken::Token(found) })
+    }
+}
+
 /// A walk's state and path, between two calls.
 #[derive(Clone)]
 pub(crate) struct Walk {

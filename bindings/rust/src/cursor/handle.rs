@@ -30,8 +30,9 @@ impl<'s> Handle<'s> {
         Ok(Handle::element(store, root, found))
     }
 
+    /// What a call has found under a root.
     #[inline]
-    fn element(store: &'s Store<'s>, root: u32, found: NodeOrToken<Found, Found>) -> SyntaxElement<'s> {
+    pub fn element(store: &'s Store<'s>, root: u32, found: NodeOrToken<Found, Found>) -> SyntaxElement<'s> {
         match found {
             NodeOrToken::Node(at) => NodeOrToken::Node(SyntaxNode(Handle { store, root, at })),
             NodeOrToken::Token(at) => NodeOrToken::Token(SyntaxToken(Handle { store, root, at })),

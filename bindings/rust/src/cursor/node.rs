@@ -3,7 +3,7 @@
 use std::{fmt, iter};
 
 use crate::{
-    calls::Places,
+    calls::{Children, Places},
     cursor::{path::where_is, Handle, Preorder, PreorderWithTokens, SyntaxElement, SyntaxPath, SyntaxToken},
     green::{GreenElement, GreenNode, Store},
     indexes::Indexes,
@@ -86,12 +86,12 @@ impl<'s> SyntaxNode<'s> {
 
     /// The children that are nodes.
     pub fn children(&self) -> SyntaxNodeChildren<'s> {
-        SyntaxNodeChildren { next: self.first_child() }
+        SyntaxNodeChildren(NodesChildren::new(&self.0, false))
     }
 
     /// All children.
     pub fn children_with_tokens(&self) -> SyntaxElementChildren<'s> {
-        SyntaxElementChildren { next: self.first_child_or_token() }
+        SyntaxElementChildren(NodesChildren::new(&self.0, true))
     }
 
     /// The first child that is a node.
@@ -227,36 +227,56 @@ impl fmt::Display for SyntaxNode<'_> {
     }
 }
 
-/// The children of a node that are nodes.
-#[derive(Clone, Debug)]
-pub struct SyntaxNodeChildren<'s> {
-    next: Option<SyntaxNode<'s>>,
+/// A node, and its children as calls find them.
+#[derive(Clone)]
+struct NodesChildren<'s> {
+    node: Handle<'s>,
+    found: Children<'s>,
 }
+
+impl<'s> NodesChildren<'s> {
+    fn new(node: &Handle<'s>, with_tokens: bool) -> NodesChildren<'s> {
+        let found = Children::new(&node.store.places, node.root, &node.at.path, with_tokens);
+        NodesChildren { node: node.clone(), found }
+    }
+}
+
+/// The children of a node that are nodes.
+#[derive(Clone)]
+pub struct SyntaxNodeChildren<'s>(NodesChildren<'s>);
 
 impl<'s> Iterator for SyntaxNodeChildren<'s> {
     type Item = SyntaxNode<'s>;
 
     #[inline]
     fn next(&mut self) -> Option<SyntaxNode<'s>> {
-        let next = self.next.take()?;
-        self.next = next.next_sibling();
-        Some(next)
+        let found = self.0.found.next()?.into_node()?;
+        Some(SyntaxNode(self.0.node.to(found)))
+    }
+}
+
+impl fmt::Debug for SyntaxNodeChildren<'_> {
+    fn fmt(&self, f: &mut fmt::Formatter<'_>) -> fmt::Result {
+        self.0.node.debug("SyntaxNodeChildren", f)
     }
 }
 
 /// The children of a node.
-#[derive(Clone, Debug)]
-pub struct SyntaxElementChildren<'s> {
-    next: Option<SyntaxElement<'s>>,
-}
+#[derive(Clone)]
+pub struct SyntaxElementChildren<'s>(NodesChildren<'s>);
 
 impl<'s> Iterator for SyntaxElementChildren<'s> {
     type Item = SyntaxElement<'s>;
 
     #[inline]
     fn next(&mut self) -> Option<SyntaxElement<'s>> {
-        let next = self.next.take()?;
-        self.next = next.next_sibling_or_token();
-        Some(next)
+        let Handle { store, root, .. } = self.0.node;
+        self.0.found.next().map(|found| Handle::element(store, root, found))
+    }
+}
+
+impl fmt::Debug for SyntaxElementChildren<'_> {
+    fn fmt(&self, f: &mut fmt::Formatter<'_>) -> fmt::Result {
+        self.0.node.debug("SyntaxElementChildren", f)
     }
 }
