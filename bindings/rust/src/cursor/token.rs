@@ -36,14 +36,10 @@ impl<'s> SyntaxToken<'s> {
     /// The token's text, in the store's own bytes.
     pub fn text(&self) -> &'s str {
         let Handle { store, root, at: Found { range, ref path, .. } } = self.0;
-        if range.is_empty() {
-            return "";
-        }
-        // Of the parent's tokens those before this one end where it starts, so that it is the first to touch its own end.
-        let end = TextRange::empty(range.end());
-        let mut chunks = Chunks::new(&store.places, root, path, path.len() - 1, end);
-        let (to, _) = chunks.next().expect("a token touches its own end");
-        store.places.text(to - range.len() as usize, to)
+        // Of the parent's text this is the one chunk that is not empty; neighbours touch it with empty ones.
+        let mut chunks = Chunks::new(&store.places, root, path, path.len() - 1, range);
+        let found = chunks.find(|(from, to)| from < to);
+        found.map_or("", |(from, to)| store.places.text(from, to))
     }
 
     /// The token's record.
