@@ -87,7 +87,10 @@ static void tokens(size_t root)
     uint32_t path[64] = {0};
     size_t outcome = notes_first_token(STORE, root, path, 0, words);
     while (outcome == NOTES_TOKEN) {
-        printf("token of kind %zu, %zu to %zu, child %u\n", words[3], words[0], words[1], (unsigned)path[words[2] - 1]);
+        size_t bytes[8];
+        notes_token_text(STORE, root, path, words[2], bytes);
+        printf("token of kind %zu, %zu to %zu, child %u: \"%.*s\"\n", words[3], words[0], words[1], (unsigned)path[words[2] - 1],
+               (int)(bytes[1] - bytes[0]), (const char *)text + bytes[0]);
         outcome = notes_next_token(STORE, root, path, words[2], words);
     }
 }

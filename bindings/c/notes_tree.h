@@ -131,6 +131,8 @@ NOTES_QUESTION(first_token);
 NOTES_QUESTION(last_token);
 NOTES_QUESTION(next_token);
 NOTES_QUESTION(prev_token);
+/* Where the text of the token at `path` lies: NOTES_CHUNK, of nothing where the token is empty. Refused by 4 where the path names no token. */
+size_t notes_token_text(NOTES_STORE, size_t root, const uint32_t path[64], size_t depth, size_t words[8]);
 size_t notes_token_at_offset(NOTES_STORE, size_t root, uint32_t left[64], uint32_t right[64], size_t depth, size_t offset, size_t words[8]);
 size_t notes_child_or_token_at_range(NOTES_STORE, size_t root, uint32_t path[64], size_t depth, size_t start, size_t end, size_t words[8]);
 size_t notes_covering_element(NOTES_STORE, size_t root, uint32_t path[64], size_t depth, size_t start, size_t end, size_t words[8]);

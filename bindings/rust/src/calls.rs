@@ -152,6 +152,17 @@ impl<'b> Places<'b> {
         [self.used[0], self.used[1], self.used[2]]
     }
 
+    /// The text of the token at a path.
+    #[inline]
+    pub fn token_text(&self, root: u32, path: &Indexes) -> Result<&str, Refusal> {
+        let (mut place, mut words) = (Lent::new(), Words::default());
+        place.set(path);
+        // SAFETY: the places are the store's own; path and words have the lengths that the header says.
+        let outcome =
+            unsafe { read!(self, notes_token_text(root as usize, place.as_mut_ptr(), path.len(), words.as_mut_ptr())) };
+        judged(outcome).map(|_| self.text(words[0], words[1]))
+    }
+
     /// Bytes of the store's text that a chunk names.
     #[inline]
     pub fn text(&self, from: usize, to: usize) -> &str {
@@ -462,9 +473,9 @@ pub(crate) struct Chunks<'s> {
 }
 
 impl<'s> Chunks<'s> {
-    /// Of the text at a range, in the node that the first `depth` indexes name.
-    pub fn new(places: &'s Places<'s>, root: u32, path: &Indexes, depth: usize, range: TextRange) -> Chunks<'s> {
-        Chunks { places, root, path: path.to_place(), depth, range, state: [0; 2], place: [0; 64] }
+    /// Of the text at a range, in the node at a path.
+    pub fn new(places: &'s Places<'s>, root: u32, path: &Indexes, range: TextRange) -> Chunks<'s> {
+        Chunks { places, root, path: path.to_place(), depth: path.len(), range, state: [0; 2], place: [0; 64] }
     }
 }
 

@@ -103,6 +103,7 @@ reading! {
         words: *mut usize
     );
     fn notes_parent(root: usize, path: *const u32, depth: usize, words: *mut usize);
+    fn notes_token_text(root: usize, path: *const u32, depth: usize, words: *mut usize);
     fn notes_token_at_offset(
         root: usize, left: *mut u32, right: *mut u32, depth: usize, offset: usize, words: *mut usize
     );

@@ -1,15 +1,24 @@
 -- What an exported question promises: document 01's answer, told as an outcome and words, and every index of the lent path.
-use Prim.Native.Nat.{ℕ}
-use mathlib.Core.List.{List}
-use denote.Ref.{now}
+use Prim.Native.Nat.{ℕ, _-_, _≤_}
+use mathlib.Core.Path.{_≡_}
+use mathlib.Core.List.{List, [], _∷_}
+use mathlib.Core.Bool.{cond}
+use mathlib.Core.Option.{Option, none, some, bind}
+use lib.ListN.{length, take, drop}
+use denote.Ref.{RefT, now}
+use denote.Triple.Both.{Both}
 use Rattle.definitions.specs.Prelude.{Result}
+use Rattle.definitions.specs.Tree.{Tree, isNode, text}
+use Rattle.definitions.specs.Entry.{Entry}
 use Rattle.definitions.specs.Query as query
 use Rattle.green.specs.Store.{Store, entries, Lists}
 use Rattle.cursor.specs.declared.position.Answer.{Answer}
+use Rattle.cursor.specs.Path.{named}
 use Rattle.cursor.specs.Answers.{Tells, answerAtPath}
 use Rattle.cursor_offset.specs.declared.offset.Tokens.{Tokens}
 use Rattle.cursor_offset.specs.Answers.{TellsTokens}
-use Rattle.abi.specs.Outcomes.{Written, answerTold, tokensTold}
+use Rattle.utility_types.specs.declared.Refusal.the-variants.{NoSuchElement}
+use Rattle.abi.specs.Outcomes.{told, chunk, refusedBy, Written, answerTold, tokensTold}
 
 -- a is document 01's answer, l and l′ the path as it was lent and as it is given back, m and m′ the words, x the outcome
 pub record Told (a : Result query.Answer) (l l′ m m′ : List ℕ) (x : ℕ) : Type 0 where
@@ -31,3 +40,24 @@ Asks s root depth path q words x =
 abbrev pub AsksTokens : Store → ℕ → ℕ → Lists → Lists → ℕ → Lists → ℕ → Type 0
 AsksTokens s root depth left right offset words x =
     ToldTokens (answerAtPath (entries s) root depth (now (left .entry)) (query.Question.tokenAtOffset offset)) (now (left .entry)) (now (left .exit)) (now (right .entry)) (now (right .exit)) (now (words .entry)) (now (words .exit)) x
+
+-- THE TEXT OF A TOKEN, which rowan's handle has: document 01 shows texts in chunks. The token that up to 64 indexes name
+unfoldable pub namedToken : List Entry → ℕ → ℕ → List ℕ → Option Tree
+namedToken es r depth l = bind (named es r depth l) (λ e. cond (isNode (e .tree)) none (some (e .tree)))
+
+-- where its bytes lie in the store's text b
+pub record TextLies (b : List ℕ) (t : Tree) (m m′ : List ℕ) (x : ℕ) : Type 0 where
+  pub from : ℕ
+  pub to : ℕ
+  pub ordered : from ≤ to
+  pub within : to ≤ length b
+  pub bytes : take (to - from) (drop from b) ≡ text t
+  pub written : Written (told chunk (from ∷ to ∷ [])) m m′ x
+
+-- and 4 where a path names no token
+pub record TokenText (b : List ℕ) (o : Option Tree) (m m′ : List ℕ) (x : ℕ) : Type 0 where
+  pub token : (t : Tree) → o ≡ some t → TextLies b t m m′ x
+  pub no-token : o ≡ none → Written (refusedBy NoSuchElement) m m′ x
+
+abbrev pub AsksText : {A B : Type 0} → Store → Both (RefT (List ℕ)) A → ℕ → ℕ → Both (RefT (List ℕ)) B → Lists → ℕ → Type 0
+AsksText s text root depth path words x = TokenText (now (text .entry)) (namedToken (entries s) root depth (now (path .entry))) (now (words .entry)) (now (words .exit)) x

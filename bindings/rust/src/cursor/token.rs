@@ -3,7 +3,7 @@
 use std::{fmt, iter};
 
 use crate::{
-    calls::{Chunks, Found, Places},
+    calls::Places,
     cursor::{Handle, SyntaxElement, SyntaxNode, SyntaxPath},
     green::GreenToken,
     utility_types::{Direction, TextRange},
@@ -34,12 +34,10 @@ impl<'s> SyntaxToken<'s> {
     }
 
     /// The token's text, in the store's own bytes.
+    #[inline]
     pub fn text(&self) -> &'s str {
-        let Handle { store, root, at: Found { range, ref path, .. } } = self.0;
-        // Of the parent's text this is the one chunk that is not empty; neighbours touch it with empty ones.
-        let mut chunks = Chunks::new(&store.places, root, path, path.len() - 1, range);
-        let found = chunks.find(|(from, to)| from < to);
-        found.map_or("", |(from, to)| store.places.text(from, to))
+        let Handle { store, root, ref at } = self.0;
+        store.places.token_text(root, &at.path).expect("a token's handle names a token")
     }
 
     /// The token's record.
