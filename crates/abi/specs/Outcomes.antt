@@ -21,8 +21,8 @@ use Rattle.utility_types.specs.declared.TokenAtOffset.{TokenAtOffset}
 use Rattle.utility_types.specs.declared.TokenAtOffset.the-variants as tokens
 use Rattle.cursor.specs.declared.position.Answer.{Answer}
 use Rattle.cursor.specs.declared.position.Answer.the-variants as answer
-use Rattle.cursor_offset.specs.declared.offset.Tokens.{Tokens}
-use Rattle.cursor_offset.specs.declared.offset.Tokens.the-variants as offset
+use Rattle.cursor_range.specs.declared.offset.Tokens.{Tokens}
+use Rattle.cursor_range.specs.declared.offset.Tokens.the-variants as offset
 use Rattle.preorder.specs.declared.state.Answer as walk
 use Rattle.preorder.specs.declared.state.Answer.the-variants as event
 use Rattle.preorder.specs.declared.state.Moved.{Moved}

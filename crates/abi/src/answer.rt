@@ -8,7 +8,7 @@ ghost use Rattle.utility_types.specs.declared.TokenAtOffset.the-variants.{Betwe
 ghost use Rattle.abi.specs.Outcomes.{told, elementKind, elementTold, eventWords, bit as bitOf, atOffsetTold, answerTold, tokensTold, truthTold, replyTold, madeTold, endedTold, eventTold, movedTold, stopOutcome, chunkTold, summaryTold, childTold, Tells};
 use crate::Words;
 use cursor::position::Answer;
-use cursor_offset::offset::Tokens;
+use cursor_range::offset::Tokens;
 use green::element::Summarized;
 use green::node::ChildAt;
 use preorder::state::Answer as WalkAnswer;

@@ -15,8 +15,8 @@ use Rattle.green.specs.Store.{Store, entries, Lists}
 use Rattle.cursor.specs.declared.position.Answer.{Answer}
 use Rattle.cursor.specs.Path.{named}
 use Rattle.cursor.specs.Answers.{Tells, answerAtPath}
-use Rattle.cursor_offset.specs.declared.offset.Tokens.{Tokens}
-use Rattle.cursor_offset.specs.Answers.{TellsTokens}
+use Rattle.cursor_range.specs.declared.offset.Tokens.{Tokens}
+use Rattle.cursor_range.specs.Answers.{TellsTokens}
 use Rattle.utility_types.specs.declared.Refusal.the-variants.{NoSuchElement}
 use Rattle.abi.specs.Outcomes.{told, chunk, refusedBy, Written, answerTold, tokensTold}
 

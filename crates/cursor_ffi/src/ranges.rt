@@ -6,8 +6,8 @@ ghost use Rattle.green.specs.Valid.{Valid};
 ghost use Rattle.cursor_ffi.specs.Exports.{Asks, AsksTokens};
 use abi::Words;
 use abi::answer;
-use cursor_offset::offset;
 use cursor_range::cover;
+use cursor_range::offset;
 use cursor_range::range;
 use green::Counts;
 

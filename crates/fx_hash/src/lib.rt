@@ -1,9 +1,7 @@
 // Stands for the crate rustc-hash: a hash of 64 bits takes a word at a time. rowan finds by it what it shares.
 ghost use mathlib.Core.Path.{_≡_};
 ghost use Prim.Native.Nat.{_*_, _%_, _^_};
-ghost use Rattle.definitions.specs.Hash.{rotateLeft5, addWord, tokenHash};
-use utility_types::SyntaxKind;
-use utility_types::number;
+ghost use Rattle.definitions.specs.Hash.{rotateLeft5, addWord};
 
 // By halves, since a product that may not fit is refused; that of the upper halves goes wholly out.
 // LLVM sees through it, and makes one multiplication of it.
@@ -29,24 +27,4 @@ pub fn add_word(h: u64, w: u64) -> u64
     ensures { λ r. ⌜ r ≡ addWord h w ⌝ }
 {
     wrapping_mul(rotate_left5(h) ^ w, 0x517c_c1b7_2722_0a95)
-}
-
-// What the hash of an element starts from.
-pub fn kind_hash(kind: SyntaxKind) -> u64
-    ensures { λ r. ⌜ r ≡ addWord 0 (kind .0) ⌝ }
-{
-    add_word(0, kind.0 as u64)
-}
-
-// 255 ends the text, as it ends a string that Rust hashes.
-pub fn token_hash(kind: SyntaxKind, text: &[u8]) -> u64
-    ensures { λ r. ⌜ r ≡ tokenHash (kind .0) (now (text .entry)) ⌝ }
-{
-    let mut h = kind_hash(kind);
-    let mut i = 0;
-    while i < text.len() {
-        h = add_word(h, number::wide(text[i]) as u64);
-        i += 1;
-    }
-    add_word(h, 255)
 }

@@ -50,7 +50,7 @@ pub fn token(
     requires { ⌜ Valid (here records children text used) ⌝ }
     ensures { λ r. ⌜ Does (stores records children text used) (λ l es. share l es (tokenEntry (kind .0) (now (src .entry)))) r ⌝ }
 {
-    let hash = fx_hash::token_hash(kind, src);
+    let hash = hash::token_hash(kind, src);
     let found = search::find_token(records, children, text, used, kind, src, hash);
     if let Search::Found(n) = found {
         return Made::Number(n);

@@ -7,7 +7,7 @@ use crate::question::PairQuestion;
 use crate::question::TextQuestion;
 use crate::reply;
 use crate::reply::Reply;
-use cursor_range::same;
+use cursor::same;
 use green::Counts;
 use syntax_text::chars;
 use syntax_text::equality;
