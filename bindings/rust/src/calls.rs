@@ -157,17 +157,25 @@ impl<'b> Places<'b> {
     pub fn token_text(&self, root: u32, path: &Indexes) -> Result<&str, Refusal> {
         let (mut place, mut words) = (Lent::new(), Words::default());
         place.set(path);
-        // SAFETY: the places are the store's own; path and words have the lengths that the header says.
-        let outcome =
-            unsafe { read!(self, notes_token_text(root as usize, place.as_mut_ptr(), path.len(), words.as_mut_ptr())) };
-        judged(outcome).map(|_| self.text(words[0], words[1]))
+        // SAFETY: the places are the store's own; path and words have the lengths that the header says. What is not refused is
+        // where a token's text lies.
+        unsafe {
+            let (path_at, words_at) = (place.as_mut_ptr(), words.as_mut_ptr());
+            judged(read!(self, notes_token_text(root as usize, path_at, path.len(), words_at)))?;
+            Ok(self.text(&words))
+        }
     }
 
-    /// Bytes of the store's text that a chunk names.
+    /// The part of the store's text that a call has answered.
+    ///
+    /// # Safety
+    ///
+    /// It is of a chunk or of a token: their bytes are those of tokens, and a byte over 127 is refused.
     #[inline]
-    pub fn text(&self, from: usize, to: usize) -> &str {
-        // SAFETY: a byte over 127 is refused, so all that the library has written are characters.
-        unsafe { std::str::from_utf8_unchecked(&self.text[..self.used[2]][from..to]) }
+    unsafe fn text(&self, words: &Words) -> &str {
+        let [from, to, ..] = *words;
+        // SAFETY: bytes up to 127 are characters.
+        unsafe { std::str::from_utf8_unchecked(&self.text[from..to]) }
     }
 
     /// The root, or the refusal and its event.
@@ -373,6 +381,7 @@ impl<'s> Children<'s> {
                 false => read!(places, notes_first_child(root_number, path_at, depth, words_at)),
             }
         };
+        let outcome = judged(outcome).expect("a handle names a node of its store");
         Children { places, root, with_tokens, place, words, outcome }
     }
 
@@ -382,12 +391,13 @@ impl<'s> Children<'s> {
         let (root, path, depth, words) =
             (self.root as usize, self.place.as_mut_ptr(), self.words[2], self.words.as_mut_ptr());
         // SAFETY: the places are the store's own; path and words have the lengths that the header says.
-        self.outcome = unsafe {
+        let outcome = unsafe {
             match self.with_tokens {
                 true => read!(self.places, notes_next_sibling_or_token(root, path, depth, words)),
                 false => read!(self.places, notes_next_sibling(root, path, depth, words)),
             }
         };
+        self.outcome = judged(outcome).expect("an answer names an element of its store");
     }
 }
 
@@ -479,17 +489,16 @@ impl<'s> Chunks<'s> {
     }
 }
 
-impl Iterator for Chunks<'_> {
-    /// From and to, in the store's text.
-    type Item = (usize, usize);
+impl<'s> Iterator for Chunks<'s> {
+    type Item = &'s str;
 
     #[inline]
-    fn next(&mut self) -> Option<(usize, usize)> {
+    fn next(&mut self) -> Option<&'s str> {
         let mut words = Words::default();
         // SAFETY: the places are the store's own; state and place are those of this text, and all have the lengths that the
-        // header says.
-        let outcome = unsafe {
-            read!(
+        // header says. What is not refused and not the end is a chunk.
+        unsafe {
+            let outcome = read!(
                 self.places,
                 notes_next_chunk(
                     self.root as usize,
@@ -501,8 +510,11 @@ impl Iterator for Chunks<'_> {
                     self.place.as_mut_ptr(),
                     words.as_mut_ptr()
                 )
-            )
-        };
-        (outcome == ffi::CHUNK).then_some((words[0], words[1]))
+            );
+            match judged(outcome).expect("a text lies within its node") {
+                ffi::CHUNK => Some(self.places.text(&words)),
+                _ => None,
+            }
+        }
     }
 }

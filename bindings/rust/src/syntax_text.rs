@@ -131,8 +131,7 @@ impl<'s> SyntaxText<'s> {
 
     fn chunks(&self) -> impl Iterator<Item = &str> {
         let Handle { store, root, ref at } = self.node.0;
-        let chunks = Chunks::new(&store.places, root, &at.path, self.range);
-        chunks.map(|(from, to)| store.places.text(from, to))
+        Chunks::new(&store.places, root, &at.path, self.range)
     }
 
     /// Puts a question of this text's node, with the other text's path if there are two.

@@ -1,11 +1,8 @@
 //! The same program text over rowan's handles and over those of the Rust crate.
 
-use super::sum;
+use super::{sum, ABSENT};
 use crate::{case::Case, measure::Bench};
 use notes_tree::{GreenNode, Store};
-
-/// A byte that no tree has: the search goes over all.
-const ABSENT: char = '@';
 
 macro_rules! programs {
     ($side:ident, $node:ty) => {

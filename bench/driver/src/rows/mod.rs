@@ -70,6 +70,9 @@ pub fn all(case: &Case, bench: &mut Bench) {
     handles::rows(case, bench);
 }
 
+/// A byte that no tree has: a search for it goes over all.
+const ABSENT: char = '@';
+
 /// An element's range and kind in one number.
 #[inline]
 fn sum(start: usize, end: usize, kind: usize) -> u64 {

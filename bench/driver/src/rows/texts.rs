@@ -1,9 +1,7 @@
 //! The text of the whole tree.
 
+use super::ABSENT;
 use crate::{ask, case::Case, ffi, measure::Bench};
-
-/// A byte that no tree has: the search goes over all.
-const ABSENT: char = '@';
 
 pub fn rows(case: &Case, bench: &mut Bench) {
     let tokens = case.tokens().count();
