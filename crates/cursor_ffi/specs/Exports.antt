@@ -9,7 +9,8 @@ use denote.Ref.{RefT, now}
 use denote.Triple.Both.{Both}
 use Rattle.definitions.specs.Prelude.{Result}
 use Rattle.definitions.specs.Tree.{Tree, isNode, text}
-use Rattle.definitions.specs.Entry.{Entry}
+use Rattle.definitions.specs.Entry.{Entry, textBytes}
+use Rattle.definitions.specs.Element.{Element}
 use Rattle.definitions.specs.Query as query
 use Rattle.green.specs.Store.{Store, entries, Lists}
 use Rattle.cursor.specs.declared.position.Answer.{Answer}
@@ -42,22 +43,26 @@ AsksTokens s root depth left right offset words x =
     ToldTokens (answerAtPath (entries s) root depth (now (left .entry)) (query.Question.tokenAtOffset offset)) (now (left .entry)) (now (left .exit)) (now (right .entry)) (now (right .exit)) (now (words .entry)) (now (words .exit)) x
 
 -- THE TEXT OF A TOKEN, which rowan's handle has: document 01 shows texts in chunks. The token that up to 64 indexes name
-unfoldable pub namedToken : List Entry → ℕ → ℕ → List ℕ → Option Tree
-namedToken es r depth l = bind (named es r depth l) (λ e. cond (isNode (e .tree)) none (some (e .tree)))
+unfoldable pub tokenOf : Element → Option Tree
+tokenOf e = cond (isNode (e .tree)) none (some (e .tree))
 
--- where its bytes lie in the store's text b
-pub record TextLies (b : List ℕ) (t : Tree) (m m′ : List ℕ) (x : ℕ) : Type 0 where
+unfoldable pub namedToken : List Entry → ℕ → ℕ → List ℕ → Option Tree
+namedToken es r depth l = bind (named es r depth l) tokenOf
+
+-- where its bytes lie in the lent text b: among those that are in use, so that no later call writes them
+pub record TextLies (es : List Entry) (b : List ℕ) (t : Tree) (m m′ : List ℕ) (x : ℕ) : Type 0 where
   pub from : ℕ
   pub to : ℕ
   pub ordered : from ≤ to
+  pub used : to ≤ textBytes es
   pub within : to ≤ length b
   pub bytes : take (to - from) (drop from b) ≡ text t
   pub written : Written (told chunk (from ∷ to ∷ [])) m m′ x
 
 -- and 4 where a path names no token
-pub record TokenText (b : List ℕ) (o : Option Tree) (m m′ : List ℕ) (x : ℕ) : Type 0 where
-  pub token : (t : Tree) → o ≡ some t → TextLies b t m m′ x
+pub record TokenText (es : List Entry) (b : List ℕ) (o : Option Tree) (m m′ : List ℕ) (x : ℕ) : Type 0 where
+  pub token : (t : Tree) → o ≡ some t → TextLies es b t m m′ x
   pub no-token : o ≡ none → Written (refusedBy NoSuchElement) m m′ x
 
 abbrev pub AsksText : {A B : Type 0} → Store → Both (RefT (List ℕ)) A → ℕ → ℕ → Both (RefT (List ℕ)) B → Lists → ℕ → Type 0
-AsksText s text root depth path words x = TokenText (now (text .entry)) (namedToken (entries s) root depth (now (path .entry))) (now (words .entry)) (now (words .exit)) x
+AsksText s text root depth path words x = TokenText (entries s) (now (text .entry)) (namedToken (entries s) root depth (now (path .entry))) (now (words .entry)) (now (words .exit)) x
