@@ -9,8 +9,8 @@ use lib.ListN.{length, drop, getD, take}
 use lib.Dec.{eqb}
 use borrow.Author.Tests.{ltb-false}
 use Rattle.definitions.specs.Prelude.{Result, ok, refused, andThen, option, any}
-use Rattle.definitions.specs.Entry.{Entry, Lent, tokenEntry, nodeEntry}
-use Rattle.definitions.specs.Refusal.{isTooLarge, isOverfull, isMalformed, isTooMany, isTooDeep, isUnfit, isUnreadable, isNotZero, isNoRegister}
+use Rattle.definitions.specs.Entry.{Entry, Limits, tokenEntry, nodeEntry}
+use Rattle.definitions.specs.Refusal.{isTooLarge, isFull, limited, isMalformed, isTooMany, isTooDeep, isUnfit, isUnreadable, isNotZero, isNoRegister}
 use Rattle.definitions.specs.NodeCache.{Made, push, reuse, share}
 use Rattle.definitions.specs.Sheet.{eventCount, wordAt, operandAt, codeOf, kindOf}
 use Rattle.definitions.specs.Builder.{State, Accepted, Parent, waits, token, opens, startNode, closes, finishNode, checkpoint, innermost, startNodeAt, new}
@@ -28,10 +28,15 @@ grows-none es = ([], sym (append-nil es))
 pub grows-on : (es es′ es″ : List Entry) → Grows es es′ → Grows es′ es″ → Grows es es″
 grows-on es es′ es″ g h = (g .0 ++ h .0, h .1 ∙ ap (λ x. x ++ h .0) (g .1) ∙ append-assoc es (g .0) (h .0))
 
-pub push-made : (l : Lent) (es new : List Entry) (n : ℕ) (m : Made) → push l es new n ≡ ok m → record { number = n; entries = es ++ new } ≡ m
+-- an accepted call passed no limit
+pub limited-ok : {A : Type 0} (l : Limits) (es new : List Entry) (x : Result A) (a : A) → limited l es new x ≡ ok a → x ≡ ok a
+unfolding limited
+limited-ok l es new x a h = cond-ok (isFull l (es ++ new)) 15 x a h
+
+pub push-made : (l : Limits) (es new : List Entry) (n : ℕ) (m : Made) → push l es new n ≡ ok m → record { number = n; entries = es ++ new } ≡ m
 unfolding push
 push-made l es new n m h =
-    let z : ok (record { number = n; entries = es ++ new }) ≡ ok m = cond-ok (isOverfull l (es ++ new)) 15 _ m (cond-ok (any (λ x. isTooLarge (x .tree)) new) 14 _ m h) in
+    let z : ok (record { number = n; entries = es ++ new }) ≡ ok m = limited-ok l es new _ m (cond-ok (any (λ x. isTooLarge (x .tree)) new) 14 _ m h) in
     cc
 
 -- an event accepted over these entries: what it yields waits last
@@ -39,11 +44,11 @@ pub record Accepts (es : List Entry) (a : Accepted) : Type 0 where
   pub grows : Grows es (a .state .entries)
   pub waits : (n : ℕ) → a .yields ≡ some n → (before : List ℕ) × (a .state .builder .children ≡ before ++ (n ∷ []))
 
-push-grows : (l : Lent) (es new : List Entry) (n : ℕ) (m : Made) → push l es new n ≡ ok m → Grows es (m .entries)
+push-grows : (l : Limits) (es new : List Entry) (n : ℕ) (m : Made) → push l es new n ≡ ok m → Grows es (m .entries)
 unfolding push
 push-grows l es new n m e = (new, sym (ap (λ x. x .entries) (push-made l es new n m e)))
 
-share-grows : (l : Lent) (es : List Entry) (e : Entry) (m : Made) → share l es e ≡ ok m → Grows es (m .entries)
+share-grows : (l : Limits) (es : List Entry) (e : Entry) (m : Made) → share l es e ≡ ok m → Grows es (m .entries)
 unfolding share option
 share-grows l es e m h = go (reuse es (e .tree)) h
   where
@@ -62,13 +67,13 @@ made-waits es ps before cs a m g q =
       waits = λ n y. (before, let e : m .number ≡ n = Option·some-injective (m .number) n (ap (λ x. x .yields) z ∙ y) in rw (← e) (sym (ap (λ x. x .state .builder .children) z)));
     }
 
-waits-grow : (l : Lent) (es : List Entry) (e : Entry) (ps : List Parent) (before : List ℕ) (cs : List (Option ℕ)) (a : Accepted)
+waits-grow : (l : Limits) (es : List Entry) (e : Entry) (ps : List Parent) (before : List ℕ) (cs : List (Option ℕ)) (a : Accepted)
     → andThen (share l es e) (waits ps before cs) ≡ ok a → Accepts es a
 waits-grow l es e ps before cs a h =
     let m = and-then-ok (share l es e) (waits ps before cs) a h in
     made-waits es ps before cs a (m .0) (share-grows l es e (m .0) (m .1)) (m .2)
 
-module _ (l : Lent) (s : State) (a : Accepted) where
+module _ (l : Limits) (s : State) (a : Accepted) where
   ok-same : {x : Accepted} → x .state .entries ≡ s .entries → x .yields ≡ none → ok x ≡ ok a → Accepts (s .entries) a
   ok-same {x} p w q =
       let z = ok-injective q in
@@ -135,7 +140,7 @@ unfolding follows
 follows-grows s i rest (ok a) h = h a refl
 follows-grows s i rest (refused r) h = grows-none (s .entries)
 
-run-from-grows : (l : Lent) (sheet : List ℕ) (m i : ℕ) (s : State) (left : List ℕ) → Grows (s .entries) (runFrom l sheet i m s left .entries)
+run-from-grows : (l : Limits) (sheet : List ℕ) (m i : ℕ) (s : State) (left : List ℕ) → Grows (s .entries) (runFrom l sheet i m s left .entries)
 unfolding runFrom endsAt
 run-from-grows l sheet zero i s left = grows-none (s .entries)
 run-from-grows l sheet (suc m) i s left =
@@ -144,7 +149,7 @@ run-from-grows l sheet (suc m) i s left =
     let f = event-accepts l s a (codeOf (wordAt sheet i)) (kindOf (wordAt sheet i)) (operandAt sheet i) left h in
     grows-on (s .entries) (a .state .entries) _ (f .grows) (run-from-grows l sheet m (suc i) (a .state) (drop (takenAt sheet i) left)))
 
-pub run-grows : (l : Lent) (es : List Entry) (sheet text : List ℕ) → Grows es (run l es sheet text .entries)
+pub run-grows : (l : Limits) (es : List Entry) (sheet text : List ℕ) → Grows es (run l es sheet text .entries)
 unfolding run
 run-grows l es sheet text = go (isMalformed sheet text)
   where

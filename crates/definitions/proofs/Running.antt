@@ -8,7 +8,7 @@ use mathlib.Core.Bool.{Bool, true, false, cond}
 use lib.ListN.{length, drop}
 use lib.Seq.{drop-drop}
 use Rattle.definitions.specs.Prelude.{Result, ok, refused}
-use Rattle.definitions.specs.Entry.{Entry, Lent}
+use Rattle.definitions.specs.Entry.{Entry, Limits}
 use Rattle.definitions.specs.Sheet.{eventCount}
 use Rattle.definitions.specs.Refusal.{isMalformed}
 use Rattle.definitions.specs.Builder.{State, new, Accepted}
@@ -22,11 +22,11 @@ pub record Rest (done : List Accepted) (r whole : Run) : Type 0 where
   pub builder : r .builder ≡ whole .builder
   pub events : done ++ r .events ≡ whole .events
 
-pub record Running (l : Lent) (sheet text : List ℕ) (whole : Run) (n i at : ℕ) (s : State) (done : List Accepted) : Type 0 where
+pub record Running (l : Limits) (sheet text : List ℕ) (whole : Run) (n i at : ℕ) (s : State) (done : List Accepted) : Type 0 where
   pub within : i ≤ n
   pub rest : Rest done (runFrom l sheet i (n - i) s (drop at text)) whole
 
-module _ (l : Lent) (sheet text : List ℕ) (es : List Entry) where
+module _ (l : Limits) (sheet text : List ℕ) (es : List Entry) where
   pub running-start : isMalformed sheet text ≡ false → Running l sheet text (run l es sheet text) (eventCount sheet) 0 0 (record { entries = es; builder = new }) []
   unfolding run
   running-start h =
@@ -37,7 +37,7 @@ module _ (l : Lent) (sheet text : List ℕ) (es : List Entry) where
   unfolding run
   malformed h = rw h
 
-module _ {l : Lent} {sheet text : List ℕ} {whole : Run} {n i at : ℕ} {s : State} {done : List Accepted} (r : Running l sheet text whole n i at s done) where
+module _ {l : Limits} {sheet text : List ℕ} {whole : Run} {n i at : ℕ} {s : State} {done : List Accepted} (r : Running l sheet text whole n i at s done) where
   one-more : i < n → n - i ≡ suc (n - (i + 1))
   one-more h = omega arith
 
@@ -68,12 +68,12 @@ unfolding follows
 follows-most s i m rest h (ok a) = omega (arith, h (a .state))
 follows-most s i m rest h (refused k) = omega arith
 
-from-most : (l : Lent) (sheet : List ℕ) (i m : ℕ) (s : State) (left : List ℕ) → length (runFrom l sheet i m s left .events) ≤ m
+from-most : (l : Limits) (sheet : List ℕ) (i m : ℕ) (s : State) (left : List ℕ) → length (runFrom l sheet i m s left .events) ≤ m
 unfolding runFrom endsAt
 from-most l sheet i zero s left = omega arith
 from-most l sheet i (suc m) s left = follows-most s i m _ (λ s′. from-most l sheet (suc i) m s′ (drop (takenAt sheet i) left)) (eventAt l sheet i s left)
 
-pub events-most : (l : Lent) (es : List Entry) (sheet text : List ℕ) → length (run l es sheet text .events) ≤ 4096
+pub events-most : (l : Limits) (es : List Entry) (sheet text : List ℕ) → length (run l es sheet text .events) ≤ 4096
 unfolding run
 events-most l es sheet text = go (isMalformed sheet text) refl
   where

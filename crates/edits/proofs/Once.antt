@@ -8,7 +8,7 @@ use lib.ListN.{length, length-append}
 use borrow.Author.Tests.{lt-ltb}
 use Rattle.definitions.specs.Prelude.{Result}
 use Rattle.definitions.specs.Tree.{kind}
-use Rattle.definitions.specs.Entry.{Entry, treeAt, nodeEntry, Lent}
+use Rattle.definitions.specs.Entry.{Entry, treeAt, nodeEntry, Lent, Limits, within}
 use Rattle.definitions.specs.Refusal.{exceedsRoom, isOverfull}
 use Rattle.definitions.specs.NodeCache.{Made}
 use Rattle.definitions.proofs.Results.{refused-injective}
@@ -27,14 +27,14 @@ full : (es : List Entry) (e : Entry) → isOverfull nothing (es ++ (e ∷ [])) �
 unfolding isOverfull exceedsRoom
 full es e = rw (lt-ltb 0 (length (es ++ (e ∷ []))) (omega (arith, length-append es (e ∷ []))))
 
-pub one-refusal : {call : Lent → Result Made} {r q : Refusal} → Refuses call r → Refuses call q → refusalNumber r ≡ refusalNumber q
-one-refusal a b = refused-injective (sym (a .always nothing) ∙ b .always nothing)
+pub one-refusal : {call : Limits → Result Made} {r q : Refusal} → Refuses call r → Refuses call q → refusalNumber r ≡ refusalNumber q
+one-refusal a b = refused-injective (sym (a .always (within nothing)) ∙ b .always (within nothing))
 
 -- what is needed, part by part
 needs : (count len size height hash : ℕ) → Needed
 needs count len size height hash = record { count = count; sums = record { len = len; size = size; height = height }; hash = hash }
 
-module _ {s : Store} {n : ℕ} {ns : List ℕ} {call : Lent → Result Made} {x : Needed} (a : Awaits s n ns call x) where
+module _ {s : Store} {n : ℕ} {ns : List ℕ} {call : Limits → Result Made} {x : Needed} (a : Awaits s n ns call x) where
   pub one-need : {y : Needed} → Awaits s n ns call y → x ≡ y
   unfolding needs
   one-need {y} b =
@@ -47,4 +47,4 @@ module _ {s : Store} {n : ℕ} {ns : List ℕ} {call : Lent → Result Made} {x 
   pub not-refused : {r : Refusal} → Refuses call r → ⊥
   not-refused b =
       let e = nodeEntry false (entries s) (kind (treeAt (entries s) n)) ns in
-      b .not-room (refused-injective (sym (b .always nothing) ∙ a .made nothing ∙ push-full nothing (entries s) e (length (entries s)) (a .small) (full (entries s) e)))
+      b .not-room (refused-injective (sym (b .always (within nothing)) ∙ a .made (within nothing) ∙ push-full nothing (entries s) e (length (entries s)) (a .small) (full (entries s) e)))

@@ -7,7 +7,7 @@ use lib.ListN.{length, getD, drop}
 use lib.Seq.{slice}
 use denote.Ref.{RefT, now}
 use denote.Triple.Both.{Both}
-use Rattle.definitions.specs.Entry.{Entry, tokenEntry, nodeEntry, Lent}
+use Rattle.definitions.specs.Entry.{Entry, tokenEntry, nodeEntry, Lent, Limits, within}
 
 -- records of 8 words, child places, text bytes, and how many of each are in use
 pub record Store : Type 0 where
@@ -43,6 +43,10 @@ stores r c t u = both (here (r .entry) (c .entry) (t .entry) (u .entry)) (here (
 
 abbrev pub lent : Store → Lent
 lent s = record { records = length (s .records) / 8; children = length (s .children); text = length (s .text) }
+
+-- what new records may take of a store: 15
+abbrev pub limits : Store → Limits
+limits s = within (lent s)
 
 -- the words of record n
 abbrev pub wordsAt : List ℕ → ℕ → List ℕ

@@ -12,7 +12,7 @@ use Rattle.definitions.specs.NodeCache.{Made, reuse, push, share}
 use Rattle.definitions.proofs.Entries.{overfull-push}
 use Rattle.utility_types.specs.declared.Refusal.the-variants.{TooLarge, NoRoom}
 use Rattle.utility_types.specs.declared.Made.the-variants.{Number, Refused}
-use Rattle.green.specs.Store.{Store, entries, lent}
+use Rattle.green.specs.Store.{Store, entries, lent, limits}
 use Rattle.green.specs.Valid.{Valid}
 use Rattle.green.proofs.Known.{count-records}
 use Rattle.green_new.specs.Ready.{hasRoom, Pushed}
@@ -24,7 +24,7 @@ use Rattle.node_cache.specs.declared.search.Search.the-variants.{Found, 
 
 module _ {s : Store} (v : Valid s) (e : Entry) (r : Search) (f : found r ≡ reuse (entries s) (e .tree)) where
   abbrev result : Result Made
-  result = share (lent s) (entries s) e
+  result = share (limits s) (entries s) e
 
   pub event-found : {n : ℕ} → r ≡ Found n → Done s s result (Number n)
   unfolding share option
@@ -34,12 +34,12 @@ module _ {s : Store} (v : Valid s) (e : Entry) (r : Search) (f : found r ≡ reu
     pub event-missing : reuse (entries s) (e .tree) ≡ none
     event-missing = sym f ∙ ap found p
 
-    new : result ≡ push (lent s) (entries s) (e ∷ []) (length (entries s))
+    new : result ≡ push (limits s) (entries s) (e ∷ []) (length (entries s))
     unfolding share option
     new = rw event-missing
 
     pub event-large : isTooLarge (e .tree) ≡ true → Done s s result (Refused TooLarge)
-    event-large l = done-refused v (new ∙ push-large (lent s) (entries s) e (length (entries s)) l) refl
+    event-large l = done-refused v (new ∙ push-large (limits s) (entries s) e (length (entries s)) l) refl
 
     -- by the test of room for what the entry has of its own
     module _ (small : isTooLarge (e .tree) ≡ false) {places bytes : ℕ} (own : places ≡ length (e .children)) (text : bytes ≡ ownBytes (e .tree))

@@ -15,7 +15,7 @@ use Rattle.definitions.proofs.Entries.{treesAt-count}
 use Rattle.definitions.proofs.Sharing.{event-there}
 use Rattle.utility_types.specs.declared.Refusal.the-variants.{TooLarge, NoRoom}
 use Rattle.utility_types.specs.declared.Made.the-variants.{Number, Refused}
-use Rattle.green.specs.Store.{Store, entries, lent}
+use Rattle.green.specs.Store.{Store, entries, limits}
 use Rattle.green.specs.Valid.{AllBelow, AllEvents, Valid}
 use Rattle.green_new.specs.Ready.{SumsOf, withinLimits, hasRoom, NodeReady, Pushed}
 use Rattle.green_new.specs.Done.{Done}
@@ -53,26 +53,26 @@ module _ {s : Store} (v : Valid s) (k : ℕ) (ns : List ℕ) (r : Search) (f : f
   abbrev e : Entry
   e = nodeEntry true (entries s) k ns
 
-  pub node-many : 4096 < length ns → Done s s (share (lent s) (entries s) e) (Refused TooLarge)
+  pub node-many : 4096 < length ns → Done s s (share (limits s) (entries s) e) (Refused TooLarge)
   unfolding isTooLarge exceedsLimits childrenOf
   node-many l = event-large v e r f p (rw (treesAt-count (entries s) ns, lt-ltb 4096 (length ns) l))
 
   module _ (few : length ns ≤ 4096) {x : Sums} (sums : SumsOf (treesAt (entries s) ns) x) {w : Bool} (within : (c : ℕ) → c ≤ 4096 → w ≡ withinLimits c x) where
-    limits : not w ≡ isTooLarge (e .tree)
-    limits = ap not (within (length ns) few) ∙ Bool·not-not _ ∙ sym (node-limits k sums (sym (treesAt-count (entries s) ns)))
+    too-large : not w ≡ isTooLarge (e .tree)
+    too-large = ap not (within (length ns) few) ∙ Bool·not-not _ ∙ sym (node-limits k sums (sym (treesAt-count (entries s) ns)))
 
-    pub node-large : not w ≡ true → Done s s (share (lent s) (entries s) e) (Refused TooLarge)
-    node-large q = event-large v e r f p (sym limits ∙ q)
+    pub node-large : not w ≡ true → Done s s (share (limits s) (entries s) e) (Refused TooLarge)
+    node-large q = event-large v e r f p (sym too-large ∙ q)
 
     module _ (fits : not w ≡ false) {b : Bool} (room : b ≡ hasRoom s (length ns) 0) where
       small : isTooLarge (e .tree) ≡ false
-      small = sym limits ∙ fits
+      small = sym too-large ∙ fits
 
       own : 0 ≡ ownBytes (e .tree)
       unfolding ownBytes
       own = refl
 
-      pub node-full : not b ≡ true → Done s s (share (lent s) (entries s) e) (Refused NoRoom)
+      pub node-full : not b ≡ true → Done s s (share (limits s) (entries s) e) (Refused NoRoom)
       node-full q = event-full v e r f p small refl own room q
 
       module _ (q : not b ≡ false) where
@@ -84,5 +84,5 @@ module _ {s : Store} (v : Valid s) (k : ℕ) (ns : List ℕ) (r : Search) (f : f
           room = event-room v e r f p small refl own room q;
         }
 
-        pub node-made : {s′ : Store} → Pushed s s′ e → Done s s′ (share (lent s) (entries s) e) (Number (getD (s .used) 0 0))
+        pub node-made : {s′ : Store} → Pushed s s′ e → Done s s′ (share (limits s) (entries s) e) (Number (getD (s .used) 0 0))
         node-made u = event-made v e r f p small refl own room q u

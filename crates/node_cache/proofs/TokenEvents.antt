@@ -12,7 +12,7 @@ use Rattle.definitions.specs.Refusal.{exceedsLimits, isTooLarge}
 use Rattle.definitions.specs.NodeCache.{findFrom, reuse, share}
 use Rattle.utility_types.specs.declared.Refusal.the-variants.{TooLarge, NoRoom}
 use Rattle.utility_types.specs.declared.Made.the-variants.{Number, Refused}
-use Rattle.green.specs.Store.{Store, entries, lent}
+use Rattle.green.specs.Store.{Store, entries, limits}
 use Rattle.green.specs.Valid.{Valid}
 use Rattle.green_new.specs.Ready.{hasRoom, TokenReady, Pushed}
 use Rattle.green_new.specs.Done.{Done}
@@ -27,7 +27,7 @@ unfolding reuse sharable
 token-reused es k src = refl
 
 module _ {s : Store} (v : Valid s) (k : ℕ) (src : List ℕ) (r : Search) (f : found r ≡ reuse (entries s) (token k src)) (p : r ≡ Missing) where
-  pub token-large : 4294967295 < length src → Done s s (share (lent s) (entries s) (tokenEntry k src)) (Refused TooLarge)
+  pub token-large : 4294967295 < length src → Done s s (share (limits s) (entries s) (tokenEntry k src)) (Refused TooLarge)
   unfolding isTooLarge exceedsLimits childrenOf count height size textLen
   token-large l = event-large v (tokenEntry k src) r f p (lt-ltb 4294967295 (length src) l)
 
@@ -40,7 +40,7 @@ module _ {s : Store} (v : Valid s) (k : ℕ) (src : List ℕ) (r : Search) (f : 
     unfolding ownBytes
     own = refl
 
-    pub token-full : not b ≡ true → Done s s (share (lent s) (entries s) (tokenEntry k src)) (Refused NoRoom)
+    pub token-full : not b ≡ true → Done s s (share (limits s) (entries s) (tokenEntry k src)) (Refused NoRoom)
     token-full q = event-full v (tokenEntry k src) r f p small refl own room q
 
     module _ (q : not b ≡ false) where
@@ -50,5 +50,5 @@ module _ {s : Store} (v : Valid s) (k : ℕ) (src : List ℕ) (r : Search) (f : 
         room = event-room v (tokenEntry k src) r f p small refl own room q;
       }
 
-      pub token-made : {s′ : Store} → Pushed s s′ (tokenEntry k src) → Done s s′ (share (lent s) (entries s) (tokenEntry k src)) (Number (getD (s .used) 0 0))
+      pub token-made : {s′ : Store} → Pushed s s′ (tokenEntry k src) → Done s s′ (share (limits s) (entries s) (tokenEntry k src)) (Number (getD (s .used) 0 0))
       token-made u = event-made v (tokenEntry k src) r f p small refl own room q u

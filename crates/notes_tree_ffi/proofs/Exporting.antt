@@ -9,7 +9,7 @@ use lib.ListN.{length, getD, set}
 use lib.Seq.{sets}
 use Rattle.definitions.specs.Entry.{Entry}
 use Rattle.utility_types.specs.declared.Made.{Made}
-use Rattle.green.specs.Store.{Store, lent, entries, both}
+use Rattle.green.specs.Store.{Store, limits, entries, both}
 use Rattle.green_new.specs.Done.{Done}
 use Rattle.preorder.specs.declared.state.Coming.{Coming}
 use Rattle.preorder.specs.declared.state.Moved.{Moved}
@@ -39,7 +39,7 @@ pub run-told : {s s′ : Store} {sheet source yields′ m m′ : List ℕ} {e : 
     → RunTold (both s s′) (both yields yields′) sheet source (both m m′) x
 run-told {e = e} yields long d y w = record { ended = e; done = d; yielded = y; carries = run-on yields long d y; written = w }
 
-pub edit-told : (e : Edit) {s s′ : Store} {o : Option Edit} {m m′ : List ℕ} {r : Made} {x : ℕ} → o ≡ some e → Done s s′ (makes e (lent s) (entries s)) r → Written (madeTold r) m m′ x
+pub edit-told : (e : Edit) {s s′ : Store} {o : Option Edit} {m m′ : List ℕ} {r : Made} {x : ℕ} → o ≡ some e → Done s s′ (makes e (limits s) (entries s)) r → Written (madeTold r) m m′ x
     → EditTold (both s s′) o (both m m′) x
 edit-told e {s} {s′} {m = m} {m′} {r} {x} h d w = record {
   known = λ f p. subst (λ g. Edited (both s s′) g (both m m′) x) (Option·some-injective _ _ (sym h ∙ p)) (record { made = r; done = d; carries = edit-on e d; written = w });

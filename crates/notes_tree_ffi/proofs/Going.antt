@@ -6,7 +6,7 @@ use mathlib.Core.Bool.{Bool}
 use lib.ListN.{length}
 use Rattle.definitions.specs.Entry.{Entry}
 use Rattle.utility_types.specs.declared.Made.{Made}
-use Rattle.green.specs.Store.{Store, lent, entries, both}
+use Rattle.green.specs.Store.{Store, limits, entries, both}
 use Rattle.green.specs.Valid.{Valid}
 use Rattle.green_new.specs.Done.{Done}
 use Rattle.sheet.specs.declared.Ended.{Ended}
@@ -29,7 +29,7 @@ pub run-on : {s s′ : Store} {sheet text yields′ : List ℕ} {r : Ended} (yie
     → RunDone (both s s′) sheet text r → YieldsDone s (both yields yields′) sheet text → GoesOn s s′ (Call.run sheet text r yields′)
 run-on yields f d y = record { history = λ calls h. History.call h (Performed.run yields f d y) }
 
-pub edit-on : (e : Edit) {s s′ : Store} {r : Made} → Done s s′ (makes e (lent s) (entries s)) r → GoesOn s s′ (Call.edit e r)
+pub edit-on : (e : Edit) {s s′ : Store} {r : Made} → Done s s′ (makes e (limits s) (entries s)) r → GoesOn s s′ (Call.edit e r)
 edit-on e d = record { history = λ calls h. History.call h (Performed.edit {e = e} d) }
 
 -- calls that carry on a walk

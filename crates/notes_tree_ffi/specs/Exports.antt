@@ -7,7 +7,7 @@ use mathlib.Core.Option.{Option, none, some}
 use lib.ListN.{getD, getElem?}
 use denote.Triple.Both.{Both}
 use Rattle.utility_types.specs.declared.Made.{Made}
-use Rattle.green.specs.Store.{Store, lent, entries}
+use Rattle.green.specs.Store.{Store, limits, entries}
 use Rattle.green.specs.Answers.{fieldsOf, summarized, childOf, placed}
 use Rattle.green.specs.declared.element.Summarized.{Summarized}
 use Rattle.green.specs.declared.node.ChildAt.{ChildAt}
@@ -51,7 +51,7 @@ editOf code n from to news path = getElem? (edits n from to news path) code
 
 pub record Edited (s : Both Store Store) (e : Edit) (words : Lent) (x : ℕ) : Type 0 where
   pub made : Made
-  pub done : Done (s .entry) (s .exit) (makes e (lent (s .entry)) (entries (s .entry))) made
+  pub done : Done (s .entry) (s .exit) (makes e (limits (s .entry)) (entries (s .entry))) made
   pub carries : Carries s (Call.edit e made)
   pub written : Written (madeTold made) (words .entry) (words .exit) x
 
