@@ -32,16 +32,16 @@ one-refusal a b = refused-injective (sym (a .always (within nothing)) ∙ b .alw
 
 -- what is needed, part by part
 needs : (count len size height hash : ℕ) → Needed
-needs count len size height hash = record { count = count; sums = record { len = len; size = size; height = height }; hash = hash }
+needs count len size height hash = record { count = count; measure = record { len = len; size = size; height = height; hash = hash } }
 
 module _ {s : Store} {n : ℕ} {ns : List ℕ} {call : Limits → Result Made} {x : Needed} (a : Awaits s n ns call x) where
   pub one-need : {y : Needed} → Awaits s n ns call y → x ≡ y
   unfolding needs
   one-need {y} b =
-      let p = a .sums in
-      let q = b .sums in
-      let e : needs (x .count) (x .sums .len) (x .sums .size) (x .sums .height) (x .hash) ≡ needs (y .count) (y .sums .len) (y .sums .size) (y .sums .height) (y .hash) =
-      cc (a .count, b .count, p .len, q .len, p .size, q .size, p .height, q .height, a .fresh .hash, b .fresh .hash) in
+      let p = a .fresh .measure in
+      let q = b .fresh .measure in
+      let e : needs (x .count) (x .measure .len) (x .measure .size) (x .measure .height) (x .measure .hash) ≡ needs (y .count) (y .measure .len) (y .measure .size) (y .measure .height) (y .measure .hash) =
+      cc (a .count, b .count, p .len, q .len, p .size, q .size, p .height, q .height, p .hash, q .hash) in
       e
 
   pub not-refused : {r : Refusal} → Refuses call r → ⊥

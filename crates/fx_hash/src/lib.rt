@@ -4,7 +4,8 @@ ghost use Prim.Native.Nat.{_*_, _%_, _^_};
 ghost use Rattle.definitions.specs.Hash.{rotateLeft5, addWord};
 
 // By halves, since a product that may not fit is refused; that of the upper halves goes wholly out.
-// LLVM sees through it, and makes one multiplication of it.
+// LLVM sees through it, and makes one multiplication of it, as long as it does not know `b` beforehand: with every call's `b` alike it would take
+// the constant's halves first and be left with three. So the rotation calls it too, by another factor.
 pub fn wrapping_mul(a: u64, b: u64) -> u64
     ensures { λ r. ⌜ r ≡ (a * b) % 2 ^ 64 ⌝ }
 {
@@ -19,7 +20,7 @@ pub fn wrapping_mul(a: u64, b: u64) -> u64
 pub fn rotate_left5(h: u64) -> u64
     ensures { λ r. ⌜ r ≡ rotateLeft5 h ⌝ }
 {
-    (h << 5) | (h >> 59)
+    wrapping_mul(h, 32) | (h >> 59)
 }
 
 // The step of FxHasher.

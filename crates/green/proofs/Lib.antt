@@ -5,3 +5,4 @@ pub mod Known
 pub mod Untouched
 pub mod Answering
 pub mod Empty
+pub mod Measured

@@ -27,7 +27,7 @@ recordWords first e =
 
 -- the words that are written of a new record
 abbrev pub headerWords : Header → List ℕ
-headerWords h = (h .kind .0 + 65536 * h .tag) ∷ h .first ∷ h .count ∷ h .len ∷ h .size ∷ h .height ∷ h .hash ∷ 0 ∷ []
+headerWords h = (h .kind .0 + 65536 * h .tag) ∷ h .first ∷ h .count ∷ h .measure .len ∷ h .measure .size ∷ h .measure .height ∷ h .measure .hash ∷ 0 ∷ []
 
 -- where the places of entry n start, and the words of its record
 abbrev pub firstOf : List Entry → ℕ → ℕ

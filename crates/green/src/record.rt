@@ -11,6 +11,7 @@ ghost use Rattle.definitions.specs.Entry.{entryAt, treeAt};
 ghost use Rattle.green.specs.Layout.{tag, ownCount, headerWords, firstOf, wordsOf};
 ghost use Rattle.green.specs.Store.{here, entered, entries};
 ghost use Rattle.green.specs.Valid.{Known};
+ghost use Rattle.green.specs.Measure.{MeasureOf, Fits};
 use crate::Counts;
 use utility_types::SyntaxKind;
 
@@ -94,16 +95,40 @@ pub fn hash_of(records: &[u64], children: &[u64], text: &[u8], used: &Counts, n:
     word(records, children, text, used, n, 6)
 }
 
+// What every record keeps of its element, for the node above it.
+pub struct Measure {
+    pub len: usize,
+    pub size: usize,
+    pub height: usize,
+    pub hash: u64,
+}
+
+// That of an element that is there.
+pub fn measure_of(
+    records: &[u64],
+    children: &[u64],
+    text: &[u8],
+    used: &Counts,
+    n: usize,
+) -> Measure
+    requires { ⌜ Known (here records children text used) n ⌝ }
+    ensures { λ r. ⌜ MeasureOf (treeAt (entries (entered records children text used)) n) r × Fits r ⌝ }
+{
+    Measure {
+        len: text_len(records, children, text, used, n),
+        size: size_of(records, children, text, used, n),
+        height: height_of(records, children, text, used, n),
+        hash: hash_of(records, children, text, used, n),
+    }
+}
+
 // What a new record keeps of its element; the tag is 0 for a token, 1 for a node that an event makes, 2 for a node that an edit makes.
 pub struct Header {
     pub kind: SyntaxKind,
     pub tag: u8,
     pub first: usize,
     pub count: usize,
-    pub len: usize,
-    pub size: usize,
-    pub height: usize,
-    pub hash: u64,
+    pub measure: Measure,
 }
 
 // For the crates above: the eight words of record `n`.
@@ -113,13 +138,14 @@ pub fn put_record(records: &mut [u64], n: usize, header: Header)
 {
     let at = n * 8;
     let kind = header.kind;
+    let measure = header.measure;
     records[at] = kind.0 as u64 + 65536 * header.tag as u64;
     records[at + 1] = header.first as u64;
     records[at + 2] = header.count as u64;
-    records[at + 3] = header.len as u64;
-    records[at + 4] = header.size as u64;
-    records[at + 5] = header.height as u64;
-    records[at + 6] = header.hash;
+    records[at + 3] = measure.len as u64;
+    records[at + 4] = measure.size as u64;
+    records[at + 5] = measure.height as u64;
+    records[at + 6] = measure.hash;
     records[at + 7] = 0;
 }
 

@@ -1,5 +1,6 @@
 -- What a finish-node event has done, by what `hash_node` and `find_node` answered. Assumes nothing.
 use Prim.Native.Nat.{ℕ, _≤_, _<_}
+use native.Mathlib.Omega.{arith}
 use mathlib.Core.Path.{_≡_, refl, sym, ap, _∙_}
 use mathlib.Core.List.{List, [], _∷_}
 use mathlib.Core.Bool.{Bool, true, false, not, Bool·not-not}
@@ -12,17 +13,20 @@ use Rattle.definitions.specs.Entry.{Entry, nodeEntry, treesAt, ownBytes}
 use Rattle.definitions.specs.Refusal.{exceedsLimits, isTooLarge}
 use Rattle.definitions.specs.NodeCache.{findFrom, reuse, share}
 use Rattle.definitions.proofs.Entries.{treesAt-count}
+use Rattle.definitions.proofs.Hashing.{many-unshared}
 use Rattle.definitions.proofs.Sharing.{event-there}
 use Rattle.utility_types.specs.declared.Refusal.the-variants.{TooLarge, NoRoom}
 use Rattle.utility_types.specs.declared.Made.the-variants.{Number, Refused}
 use Rattle.green.specs.Store.{Store, entries, limits}
 use Rattle.green.specs.Valid.{AllBelow, AllEvents, Valid}
-use Rattle.green_new.specs.Ready.{SumsOf, withinLimits, hasRoom, NodeReady, Pushed}
+use Rattle.green_new.specs.Ready.{withinLimits, hasRoom, NodeReady, Pushed}
 use Rattle.green_new.specs.Done.{Done}
-use Rattle.green_new.specs.declared.node.Sums.{Sums}
+use Rattle.green_new.specs.Over.{OverOf}
+use Rattle.green_new.specs.declared.measure.Over.{Over}
+use Rattle.green.specs.Measure.{MeasureOf}
+use Rattle.green.specs.declared.record.Measure.{Measure}
 use Rattle.green_new.proofs.Making.{node-limits}
-use Rattle.node_cache.specs.Search.{found, HashOf, NodeSought}
-use Rattle.node_cache.specs.declared.hash.Hashed.{Hashed}
+use Rattle.node_cache.specs.Search.{found, NodeSought}
 use Rattle.node_cache.specs.declared.search.Search.{Search}
 use Rattle.node_cache.specs.declared.search.Search.the-variants.{Missing}
 use Rattle.node_cache.proofs.Events.{event-missing, event-large, event-full, event-room, event-made}
@@ -33,7 +37,7 @@ events-below es [] h = tt
 events-below es (n ∷ ns) h = (event-there es n (h .0), events-below es ns (h .1))
 
 -- find_node, by whether the node is shared
-module _ {es : List Entry} {k : ℕ} {ns : List ℕ} {x : Hashed} (h : HashOf es k ns x) where
+module _ (es : List Entry) {k : ℕ} (ns : List ℕ) {x : Over} (h : OverOf k (treesAt es ns) x) where
   pub unshared : not (x .«is_sharable») ≡ true → none ≡ reuse es (node k (treesAt es ns))
   unfolding reuse
   unshared q = rw (sym (h .sharable) ∙ not-true _ q)
@@ -42,24 +46,27 @@ module _ {es : List Entry} {k : ℕ} {ns : List ℕ} {x : Hashed} (h : HashOf es
     is-shared : sharable (node k (treesAt es ns)) ≡ true
     is-shared = sym (h .sharable) ∙ not-false _ q
 
-    pub node-sought : AllEvents es ns → NodeSought es k ns (x .hash)
-    node-sought made = record { sharable = is-shared; events = made; hash = h .hash }
+    pub node-sought : AllEvents es ns → NodeSought es k ns (x .measure .hash)
+    node-sought made = record { sharable = is-shared; events = made; hash = h .measure .hash }
 
     pub node-reused : findFrom (node k (treesAt es ns)) es 0 ≡ reuse es (node k (treesAt es ns))
     unfolding reuse
     node-reused = rw is-shared
 
+-- a node over too many children is not looked for
+pub node-many : {s : Store} → Valid s → (k : ℕ) (ns : List ℕ) → 4096 < length ns → Done s s (share (limits s) (entries s) (nodeEntry true (entries s) k ns)) (Refused TooLarge)
+unfolding isTooLarge exceedsLimits childrenOf reuse
+node-many {s} v k ns l =
+    event-large v (nodeEntry true (entries s) k ns) Missing (rw (sym (many-unshared (entries s) k ns (omega arith) .0))) refl
+    (rw (treesAt-count (entries s) ns, lt-ltb 4096 (length ns) l))
+
 module _ {s : Store} (v : Valid s) (k : ℕ) (ns : List ℕ) (r : Search) (f : found r ≡ reuse (entries s) (node k (treesAt (entries s) ns))) (p : r ≡ Missing) where
   abbrev e : Entry
   e = nodeEntry true (entries s) k ns
 
-  pub node-many : 4096 < length ns → Done s s (share (limits s) (entries s) e) (Refused TooLarge)
-  unfolding isTooLarge exceedsLimits childrenOf
-  node-many l = event-large v e r f p (rw (treesAt-count (entries s) ns, lt-ltb 4096 (length ns) l))
-
-  module _ (few : length ns ≤ 4096) {x : Sums} (sums : SumsOf (treesAt (entries s) ns) x) {w : Bool} (within : (c : ℕ) → c ≤ 4096 → w ≡ withinLimits c x) where
+  module _ (few : length ns ≤ 4096) {x : Measure} (m : MeasureOf (node k (treesAt (entries s) ns)) x) {w : Bool} (within : (c : ℕ) → c ≤ 4096 → w ≡ withinLimits c x) where
     too-large : not w ≡ isTooLarge (e .tree)
-    too-large = ap not (within (length ns) few) ∙ Bool·not-not _ ∙ sym (node-limits k sums (sym (treesAt-count (entries s) ns)))
+    too-large = ap not (within (length ns) few) ∙ Bool·not-not _ ∙ sym (node-limits k m (sym (treesAt-count (entries s) ns)))
 
     pub node-large : not w ≡ true → Done s s (share (limits s) (entries s) e) (Refused TooLarge)
     node-large q = event-large v e r f p (sym too-large ∙ q)
@@ -76,10 +83,9 @@ module _ {s : Store} (v : Valid s) (k : ℕ) (ns : List ℕ) (r : Search) (f : f
       node-full q = event-full v e r f p small refl own room q
 
       module _ (q : not b ≡ false) where
-        pub node-ready : AllEvents (entries s) ns → {y : Hashed} → HashOf (entries s) k ns y → NodeReady s true k ns x (y .hash)
-        node-ready made h = record {
-          new = record { valid = v; below = events-below (entries s) ns made; fresh = λ _. event-missing v e r f p; events = λ _. made; hash = h .hash };
-          sums = sums;
+        pub node-ready : AllEvents (entries s) ns → NodeReady s true k ns x
+        node-ready made = record {
+          new = record { valid = v; below = events-below (entries s) ns made; fresh = λ _. event-missing v e r f p; events = λ _. made; measure = m };
           small = small;
           room = event-room v e r f p small refl own room q;
         }

@@ -6,7 +6,7 @@ use mathlib.Core.Bool.{Bool, true, false, not}
 use lib.ListN.{length, getD}
 use borrow.Author.Tests.{lt-ltb, le-ltb}
 use Rattle.definitions.specs.Tree.{token, childrenOf, count, height, size, textLen}
-use Rattle.definitions.specs.Hash.{tokenHash, sharable}
+use Rattle.definitions.specs.Hash.{tokenHash, hash, sharable}
 use Rattle.definitions.specs.Entry.{Entry, tokenEntry, ownBytes}
 use Rattle.definitions.specs.Refusal.{exceedsLimits, isTooLarge}
 use Rattle.definitions.specs.NodeCache.{findFrom, reuse, share}
@@ -14,6 +14,8 @@ use Rattle.utility_types.specs.declared.Refusal.the-variants.{TooLarge, NoRoom}
 use Rattle.utility_types.specs.declared.Made.the-variants.{Number, Refused}
 use Rattle.green.specs.Store.{Store, entries, limits}
 use Rattle.green.specs.Valid.{Valid}
+use Rattle.green.specs.Measure.{MeasureOf}
+use Rattle.green.specs.declared.record.Measure.{Measure}
 use Rattle.green_new.specs.Ready.{hasRoom, TokenReady, Pushed}
 use Rattle.green_new.specs.Done.{Done}
 use Rattle.node_cache.specs.Search.{found}
@@ -25,6 +27,10 @@ use Rattle.node_cache.proofs.Events.{event-missing, event-large, event-
 pub token-reused : (es : List Entry) (k : ℕ) (src : List ℕ) → findFrom (token k src) es 0 ≡ reuse es (token k src)
 unfolding reuse sharable
 token-reused es k src = refl
+
+pub token-hash : {k : ℕ} {src : List ℕ} {x : Measure} → MeasureOf (token k src) x → x .hash ≡ tokenHash k src
+unfolding hash
+token-hash m = m .hash
 
 module _ {s : Store} (v : Valid s) (k : ℕ) (src : List ℕ) (r : Search) (f : found r ≡ reuse (entries s) (token k src)) (p : r ≡ Missing) where
   pub token-large : 4294967295 < length src → Done s s (share (limits s) (entries s) (tokenEntry k src)) (Refused TooLarge)
@@ -44,9 +50,9 @@ module _ {s : Store} (v : Valid s) (k : ℕ) (src : List ℕ) (r : Search) (f : 
     token-full q = event-full v (tokenEntry k src) r f p small refl own room q
 
     module _ (q : not b ≡ false) where
-      pub token-ready : {h : ℕ} → h ≡ tokenHash k src → TokenReady s k src h
+      pub token-ready : {x : Measure} → MeasureOf (token k src) x → TokenReady s k src x
       token-ready e = record {
-        new = record { valid = v; fresh = event-missing v (tokenEntry k src) r f p; hash = e };
+        new = record { valid = v; fresh = event-missing v (tokenEntry k src) r f p; measure = e };
         room = event-room v (tokenEntry k src) r f p small refl own room q;
       }
 

@@ -9,18 +9,12 @@ use Rattle.definitions.specs.Tree.{node}
 use Rattle.definitions.specs.Hash.{hash, sharable}
 use Rattle.definitions.specs.Entry.{Entry, treeAt, treesAt}
 use Rattle.green.specs.Valid.{AllEvents}
-use Rattle.node_cache.specs.declared.hash.Hashed.{Hashed}
 use Rattle.node_cache.specs.declared.search.Search.{Search}
 use Rattle.node_cache.specs.declared.search.Search.the-variants.{Found, Missing}
 
 abbrev pub found : Search → Option ℕ
 found (Found n) = some n
 found Missing = none
-
--- what a node over these children is hashed to
-pub record HashOf (es : List Entry) (k : ℕ) (ns : List ℕ) (x : Hashed) : Type 0 where
-  pub sharable : x .«is_sharable» ≡ sharable (node k (treesAt es ns))
-  pub hash : x .hash ≡ hash (node k (treesAt es ns))
 
 -- a sharable node over what events made, with its hash
 pub record NodeSought (es : List Entry) (k : ℕ) (ns : List ℕ) (h : ℕ) : Type 0 where

@@ -11,11 +11,11 @@ ghost use Rattle.green.specs.Valid.{AllEvents, Valid};
 ghost use Rattle.green_new.specs.Ready.{hasRoom};
 ghost use Rattle.green_new.specs.Done.{Does};
 
-pub mod hash;
 pub mod search;
 
 use green::Counts;
 use green_new::limits;
+use green_new::measure;
 use green_new::node;
 use green_new::token;
 use search::Search;
@@ -50,8 +50,8 @@ pub fn token(
     requires { ⌜ Valid (here records children text used) ⌝ }
     ensures { λ r. ⌜ Does (stores records children text used) (λ l es. share l es (tokenEntry (kind .0) (now (src .entry)))) r ⌝ }
 {
-    let hash = hash::token_hash(kind, src);
-    let found = search::find_token(records, children, text, used, kind, src, hash);
+    let x = measure::of_token(kind, src);
+    let found = search::find_token(records, children, text, used, kind, src, x.hash);
     if let Search::Found(n) = found {
         return Made::Number(n);
     }
@@ -62,11 +62,11 @@ pub fn token(
         return Made::Refused(Refusal::NoRoom);
     }
     let n = used[0];
-    token::push_token(records, children, text, used, kind, src, hash);
+    token::push_token(records, children, text, used, kind, src, x);
     Made::Number(n)
 }
 
-// A finish-node event over `numbers`, which name what events made.
+// A finish-node event over `numbers`, which name what events made. One over too many is not looked for: more than three are never shared.
 pub fn node(
     records: &mut [u64],
     children: &mut [u64],
@@ -78,24 +78,23 @@ pub fn node(
     requires { ⌜ Valid (here records children text used) × AllEvents (entries (here records children text used)) (now numbers) ⌝ }
     ensures { λ r. ⌜ Does (stores records children text used) (λ l es. share l es (nodeEntry true es (kind .0) (now (numbers .entry)))) r ⌝ }
 {
-    let hashed = hash::hash_node(records, children, text, used, kind, numbers);
-    let found = search::find_node(records, children, text, used, kind, numbers, hashed);
-    if let Search::Found(n) = found {
-        return Made::Number(n);
-    }
     let count = numbers.len();
     if 4096 < count {
         return Made::Refused(Refusal::TooLarge);
     }
-    let sums = node::sum_children(records, children, text, used, numbers);
-    if !limits::is_within(sums) {
+    let over = measure::over_children(records, children, text, used, kind, numbers);
+    let found = search::find_node(records, children, text, used, kind, numbers, over);
+    if let Search::Found(n) = found {
+        return Made::Number(n);
+    }
+    let x = over.measure;
+    if !limits::is_within(x) {
         return Made::Refused(Refusal::TooLarge);
     }
     if !has_event_room(records, children, text, used, count, 0) {
         return Made::Refused(Refusal::NoRoom);
     }
     let n = used[0];
-    let hash = hashed.hash;
-    node::push_node(records, children, text, used, kind, numbers, sums, hash);
+    node::push_node(records, children, text, used, kind, numbers, x);
     Made::Number(n)
 }

@@ -9,12 +9,13 @@ ghost use Rattle.definitions.specs.Entry.{entryAt, treeAt, treesAt};
 ghost use Rattle.definitions.specs.NodeCache.{matches, reuse};
 ghost use Rattle.green.specs.Store.{here, entered, entries};
 ghost use Rattle.green.specs.Valid.{AllEvents, Valid, Known};
-ghost use Rattle.node_cache.specs.Search.{found, HashOf, NodeSought, FirstAlike};
-use crate::hash::Hashed;
+ghost use Rattle.green_new.specs.Over.{OverOf};
+ghost use Rattle.node_cache.specs.Search.{found, NodeSought, FirstAlike};
 use green::Counts;
 use green::node;
 use green::record;
 use green::token;
+use green_new::measure::Over;
 use utility_types::SyntaxKind;
 use utility_types::number;
 
@@ -176,16 +177,17 @@ pub fn find_node(
     used: &Counts,
     kind: SyntaxKind,
     numbers: &[u32],
-    hashed: Hashed,
+    over: Over,
 ) -> Search
     requires { ⌜ Valid (here records children text used) × AllEvents (entries (here records children text used)) (now numbers) ⌝ }
-    requires { ⌜ HashOf (entries (here records children text used)) (kind .0) (now numbers) hashed ⌝ }
+    requires { ⌜ OverOf (kind .0) (treesAt (entries (here records children text used)) (now numbers)) over ⌝ }
     ensures { λ r. ⌜ found r ≡ (let es = entries (entered records children text used) in reuse es (node (kind .0) (treesAt es (now (numbers .entry))))) ⌝ }
 {
-    if !hashed.is_sharable {
+    if !over.is_sharable {
         return Search::Missing;
     }
-    let hash = hashed.hash;
+    let x = over.measure;
+    let hash = x.hash;
     let n = used[0];
     let mut i = next_alike(records, children, text, used, hash, 0);
     while i < n {

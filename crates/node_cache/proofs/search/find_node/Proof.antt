@@ -20,28 +20,37 @@ abbrev μ-loop : tie.MeasureT-loop
 μ-loop records children text used kind numbers hash n i₀ i = n - i
 
 returns : tie.Need-returns Inv-loop μ-loop
-returns c = unshared (c .before .before .before .before .before .before .pre .1) (c .if1 .taken)
+returns c = unshared _ _ (c .before .before .before .before .before .before .pre .1) (c .if1 .taken)
+
+element-copy-out-n : tie.Need-element-copy-out-n Inv-loop μ-loop
+element-copy-out-n c = search needs
+
+next-alike-requires : tie.Need-next-alike-requires Inv-loop μ-loop
+next-alike-requires c κs = search needs
 
 loop-holds : tie.Need-loop-holds Inv-loop μ-loop
-loop-holds c = seek-on (c .next-alike .ensures) (c .before .before .before .before .before .before .before .before .pre .1 .hash) sought-start
+loop-holds c = seek-on (c .next-alike .ensures) (c .before .before .before .before .before .before .before .before .before .pre .1 .measure .hash) sought-start
 
 is-node-requires : tie.Need-is-node-requires Inv-loop μ-loop
-is-node-requires c κs = (known _ (c .before .before .before .before .before .before .before .before .before .before .pre .0 .0) _ (c .loop-test .taken), node-sought (c .before .before .before .before .before .before .before .before .before .before .pre .1) (c .before .before .before .before .if1 .left) (c .before .before .before .before .before .before .before .before .before .before .pre .0 .1))
+is-node-requires c κs = (known _ (c .before .before .before .before .before .before .before .before .before .before .before .pre .0 .0) _ (c .loop-test .taken), node-sought _ _ (c .before .before .before .before .before .before .before .before .before .before .before .pre .1) (c .before .before .before .before .before .if1 .left) (c .before .before .before .before .before .before .before .before .before .before .before .pre .0 .1))
 
 returns-2 : tie.Need-returns-2 Inv-loop μ-loop
-returns-2 c = sought-hit (c .before .before .before .loop .inv) (known _ (c .before .before .before .before .before .before .before .before .before .before .before .before .pre .0 .0) _ (c .before .before .loop-test .taken) .within) _ (c .before .is-node .ensures) (c .if2 .taken) ∙ node-reused (c .before .before .before .before .before .before .before .before .before .before .before .before .pre .1) (c .before .before .before .before .before .before .if1 .left)
+returns-2 c = sought-hit (c .before .before .before .loop .inv) (known _ (c .before .before .before .before .before .before .before .before .before .before .before .before .before .pre .0 .0) _ (c .before .before .loop-test .taken) .within) _ (c .before .is-node .ensures) (c .if2 .taken) ∙ node-reused _ _ (c .before .before .before .before .before .before .before .before .before .before .before .before .before .pre .1) (c .before .before .before .before .before .before .before .if1 .left)
 
 add-next-alike : tie.Need-add-next-alike Inv-loop μ-loop
-add-next-alike c = omega (arith, number-bound _ _ (known _ (c .before .before .before .before .before .before .before .before .before .before .before .before .pre .0 .0) _ (c .before .before .loop-test .taken)))
+add-next-alike c = omega (arith, number-bound _ _ (known _ (c .before .before .before .before .before .before .before .before .before .before .before .before .before .pre .0 .0) _ (c .before .before .loop-test .taken)))
+
+next-alike-requires-2 : tie.Need-next-alike-requires-2 Inv-loop μ-loop
+next-alike-requires-2 c κs = search needs
 
 loop-less : tie.Need-loop-less Inv-loop μ-loop
 loop-less c = omega (arith, (c .next-alike2 .ensures .none .after), (c .before .before .before .loop-test .taken))
 
 loop-again : tie.Need-loop-again Inv-loop μ-loop
-loop-again c = seek-on (c .next-alike2 .ensures) (c .before .before .before .before .before .before .before .before .before .before .before .before .before .pre .1 .hash) (sought-next (c .before .before .before .before .loop .inv) (known _ (c .before .before .before .before .before .before .before .before .before .before .before .before .before .pre .0 .0) _ (c .before .before .before .loop-test .taken) .within) _ (c .before .before .is-node .ensures) (c .before .if2 .left))
+loop-again c = seek-on (c .next-alike2 .ensures) (c .before .before .before .before .before .before .before .before .before .before .before .before .before .before .pre .1 .measure .hash) (sought-next (c .before .before .before .before .loop .inv) (known _ (c .before .before .before .before .before .before .before .before .before .before .before .before .before .before .pre .0 .0) _ (c .before .before .before .loop-test .taken) .within) _ (c .before .before .is-node .ensures) (c .before .if2 .left))
 
 returns-3 : tie.Need-returns-3 Inv-loop μ-loop
-returns-3 c = sought-end (c .before .loop .inv) (omega (arith, count-records _ (c .before .before .before .before .before .before .before .before .before .before .pre .0 .0), (c .loop-test .left))) ∙ node-reused (c .before .before .before .before .before .before .before .before .before .before .pre .1) (c .before .before .before .before .if1 .left)
+returns-3 c = sought-end (c .before .loop .inv) (omega (arith, count-records _ (c .before .before .before .before .before .before .before .before .before .before .before .pre .0 .0), (c .loop-test .left))) ∙ node-reused _ _ (c .before .before .before .before .before .before .before .before .before .before .before .pre .1) (c .before .before .before .before .before .if1 .left)
 
 pub find-node-spec : {M : Type 1} → statement M
 find-node-spec =
@@ -50,13 +59,13 @@ find-node-spec =
     Inv-loop
     μ-loop
     returns
-    (λ c. search needs)
-    (λ c κs. search needs)
+    element-copy-out-n
+    next-alike-requires
     loop-holds
     is-node-requires
     returns-2
     add-next-alike
-    (λ c κs. search needs)
+    next-alike-requires-2
     loop-less
     loop-again
     returns-3)

@@ -5,8 +5,8 @@ use lib.ListN.{length}
 use borrow.Author.Needs.{needs}
 use Rattle.definitions.specs.Hash.{addWord, tokenHash}
 use Rattle.definitions.proofs.Hashing.{Taken, taken-none, taken-more, taken-all}
-use Rattle.node_cache.proofs.hash.token_hash.Statement.{statement}
-use Rattle.node_cache.proofs.hash.token_hash.Tie as tie
+use Rattle.green_new.proofs.measure.token_hash.Statement.{statement}
+use Rattle.green_new.proofs.measure.token_hash.Tie as tie
 
 abbrev Inv-loop : tie.InvT-loop
 Inv-loop text h₀ i₀ h i = Taken text h₀ h i
