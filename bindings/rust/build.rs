@@ -6,6 +6,10 @@ const ARCHIVES: [&str; 2] = ["notes_tree_ffi", "cursor_ffi"];
 
 fn main() {
     println!("cargo::rerun-if-env-changed=NOTES_TREE_LIB");
+    let target = |name: &str| env::var(format!("CARGO_CFG_TARGET_{name}")).unwrap_or_default();
+    if (target("ARCH").as_str(), target("OS").as_str()) != ("x86_64", "linux") {
+        println!("cargo::error=the library is compiled for x86-64 and Linux alone");
+    }
     let folder = match env::var_os("NOTES_TREE_LIB") {
         Some(folder) => PathBuf::from(folder),
         None => PathBuf::from(env!("CARGO_MANIFEST_DIR")).join("../../target/staticlib"),

@@ -2,8 +2,10 @@
 
 use std::{error::Error, fmt};
 
-/// Why a call is refused. Where several hold, the one with the lowest number is given; a refused call changes nothing.
+/// Why a call is refused. Where several hold, the one that is tested first is given, which is the lowest; a refused call changes nothing.
+/// More refusals may come.
 #[derive(Debug, Clone, Copy, PartialEq, Eq, PartialOrd, Ord, Hash)]
+#[non_exhaustive]
 pub enum Refusal {
     /// 1: the sheet has more than 4,096 events or its text more than 65,536 bytes.
     Sheet = 1,
@@ -54,7 +56,7 @@ impl Refusal {
             SkipTooEarly,
         ];
         let found = all.into_iter().find(|refusal| refusal.number() == number);
-        found.unwrap_or_else(|| unreachable!("the library has no refusal {number}"))
+        found.unwrap_or_else(|| panic!("the archive knows refusal {number}, this crate does not: build both from one tree"))
     }
 
     fn sentence(self) -> &'static str {

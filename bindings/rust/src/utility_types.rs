@@ -170,6 +170,16 @@ impl TextRange {
         TextRange { start: offset, end: offset }
     }
 
+    /// `len` bytes from `offset`.
+    pub const fn at(offset: TextSize, len: TextSize) -> TextRange {
+        TextRange { start: offset, end: offset + len }
+    }
+
+    /// From 0 up to `end`.
+    pub const fn up_to(end: TextSize) -> TextRange {
+        TextRange { start: 0, end }
+    }
+
     /// Where it starts.
     pub const fn start(self) -> TextSize {
         self.start
@@ -188,6 +198,40 @@ impl TextRange {
     /// Is its length 0?
     pub const fn is_empty(self) -> bool {
         self.len() == 0
+    }
+
+    /// Does the offset lie in it, its end not counted?
+    pub const fn contains(self, offset: TextSize) -> bool {
+        self.start <= offset && offset < self.end
+    }
+
+    /// Does the offset lie in it, its end counted?
+    pub const fn contains_inclusive(self, offset: TextSize) -> bool {
+        self.start <= offset && offset <= self.end
+    }
+
+    /// Does the other one lie in it?
+    pub const fn contains_range(self, other: TextRange) -> bool {
+        self.start <= other.start && other.end <= self.end
+    }
+
+    /// What lies in both; none if they do not even touch.
+    pub fn intersect(self, other: TextRange) -> Option<TextRange> {
+        let both = TextRange { start: self.start.max(other.start), end: self.end.min(other.end) };
+        (both.start <= both.end).then_some(both)
+    }
+
+    /// The least that both lie in.
+    pub fn cover(self, other: TextRange) -> TextRange {
+        TextRange { start: self.start.min(other.start), end: self.end.max(other.end) }
+    }
+}
+
+impl std::ops::Index<TextRange> for str {
+    type Output = str;
+
+    fn index(&self, range: TextRange) -> &str {
+        &self[range.start as usize..range.end as usize]
     }
 }
 

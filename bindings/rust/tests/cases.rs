@@ -346,6 +346,7 @@ fn handles() {
     assert_eq!(back.map(|it| it.index()).collect::<Vec<_>>(), [1, 0]);
     assert_eq!(root.where_is(blank.green()).unwrap().unwrap().indexes(), [1]);
     assert_eq!(format!("{root:?}"), "SyntaxNode { kind: SyntaxKind(1), text_range: 0..5 }");
+    assert_eq!(blank.parent_ancestors().count(), 1);
 }
 
 /// Handles keep short paths and long ones in different ways; 64 is the highest tree.

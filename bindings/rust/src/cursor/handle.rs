@@ -1,6 +1,9 @@
 //! What nodes and tokens have in common.
 
-use std::fmt;
+use std::{
+    fmt,
+    hash::{Hash, Hasher},
+};
 
 use crate::{
     calls::{Answer, Found, Places, Words},
@@ -80,25 +83,35 @@ impl<'s> Handle<'s> {
 
     /// The record of this element: down the path, child by child.
     pub fn green(&self) -> GreenElement {
-        let mut found = NodeOrToken::Node(GreenNode::named(self.store, self.root));
+        let (mut number, mut words) = (self.root, Words::default());
         for index in self.at.path.iter() {
-            let node = found.into_node().expect(NAMED);
-            found = node.child(self.store, *index as usize).expect(NAMED).0;
+            self.store.places.child(number, *index as usize, &mut words).expect(NAMED);
+            number = words[0] as u32;
         }
-        found
+        self.store.element(number).expect(NAMED)
     }
 
     /// Are they the same record at the same offset?
     pub fn is_same(&self, other: &Handle) -> bool {
-        if self.store.id != other.store.id {
+        // What a handle keeps decides most cases: a record has one kind and one length.
+        if self.store.id != other.store.id || self.at.kind != other.at.kind || self.at.range != other.at.range {
             return false;
         }
         let (path, other_path) = (&self.at.path, &other.at.path);
+        if self.root == other.root && **path == **other_path {
+            return true;
+        }
         let paths = (&mut path.to_place(), &mut other_path.to_place());
         let operands = [other.root as usize, other_path.len(), 0, 0, 0, 0, 0, 0];
         let places = &self.store.places;
         let outcome = places.query(ffi::SAME_ELEMENT, self.root, paths, path.len(), operands, &mut Words::default());
         outcome.expect(NAMED) == ffi::YES
+    }
+
+    /// Handles that are the same have the same hash: it is made of the record and the offset, which [`is_same`](Handle::is_same) compares.
+    pub fn hash<H: Hasher>(&self, state: &mut H) {
+        self.green().hash(state);
+        self.at.range.start().hash(state);
     }
 
     pub fn debug(&self, name: &str, f: &mut fmt::Formatter<'_>) -> fmt::Result {

@@ -1,15 +1,19 @@
 //! Handles of nodes.
 
-use std::{fmt, iter};
+use std::{
+    fmt,
+    hash::{Hash, Hasher},
+    iter,
+};
 
 use crate::{
     calls::{Children, Places},
     cursor::{path::where_is, Handle, Preorder, PreorderWithTokens, SyntaxElement, SyntaxPath, SyntaxToken},
-    green::{GreenElement, GreenNode, Store},
+    green::{GreenElement, GreenNode, GreenNodeBuilder, Store},
     indexes::Indexes,
     refusal::Refusal,
     syntax_text::SyntaxText,
-    utility_types::{Direction, TextRange, TextSize, TokenAtOffset},
+    utility_types::{Direction, NodeOrToken, TextRange, TextSize, TokenAtOffset, WalkEvent},
     SyntaxKind,
 };
 
@@ -61,6 +65,35 @@ impl<'s> SyntaxNode<'s> {
     /// The path of an occurrence of `element` in the tree of this node alone, which its path has for a root. Added to rowan.
     pub fn where_is(&self, element: impl Into<GreenElement>) -> Result<Option<SyntaxPath>, Refusal> {
         where_is(self.0.store, self.green(), element.into())
+    }
+
+    /// A builder with the calls that make this node's tree anew. So a tree is carried over into a new store when its own is full:
+    ///
+    /// ```
+    /// # use notes_tree::{GreenNodeBuilder, Store, SyntaxKind, SyntaxNode};
+    /// # let mut builder = GreenNodeBuilder::new();
+    /// # builder.start_node(SyntaxKind(1));
+    /// # builder.token(SyntaxKind(2), "BS");
+    /// # builder.finish_node();
+    /// # let mut store = Store::new();
+    /// # let mut root = builder.finish(&mut store)?;
+    /// let mut fresh = Store::new();
+    /// root = SyntaxNode::new_root(&store, root)?.to_builder().finish(&mut fresh)?;
+    /// store = fresh;
+    /// assert_eq!(SyntaxNode::new_root(&store, root)?.text(), "BS");
+    /// # Ok::<(), Box<dyn std::error::Error>>(())
+    /// ```
+    pub fn to_builder(&self) -> GreenNodeBuilder {
+        let mut builder = GreenNodeBuilder::new();
+        for event in self.preorder_with_tokens() {
+            match event {
+                WalkEvent::Enter(NodeOrToken::Node(node)) => builder.start_node(node.kind()),
+                WalkEvent::Enter(NodeOrToken::Token(token)) => builder.token(token.kind(), token.text()),
+                WalkEvent::Leave(NodeOrToken::Node(_)) => builder.finish_node(),
+                WalkEvent::Leave(NodeOrToken::Token(_)) => {}
+            }
+        }
+        builder
     }
 
     /// The node as a root of its own.
@@ -201,7 +234,8 @@ impl<'s> SyntaxNode<'s> {
         Ok(found.expect("a node covers what is within it"))
     }
 
-    /// The child that contains the range, if there is one. [`Refusal::Outside`] if the range starts before the node.
+    /// The child that contains the range, if there is one. [`Refusal::Outside`] if the range starts before the node or
+    /// ends before it starts.
     pub fn child_or_token_at_range(&self, range: TextRange) -> Result<Option<SyntaxElement<'s>>, Refusal> {
         self.0.ask(|places, root, path| places.child_or_token_at_range(root, path, range))
     }
@@ -214,6 +248,12 @@ impl PartialEq for SyntaxNode<'_> {
 }
 
 impl Eq for SyntaxNode<'_> {}
+
+impl Hash for SyntaxNode<'_> {
+    fn hash<H: Hasher>(&self, state: &mut H) {
+        self.0.hash(state);
+    }
+}
 
 impl fmt::Debug for SyntaxNode<'_> {
     fn fmt(&self, f: &mut fmt::Formatter<'_>) -> fmt::Result {

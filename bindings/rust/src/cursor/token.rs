@@ -1,6 +1,10 @@
 //! Handles of tokens.
 
-use std::{fmt, iter};
+use std::{
+    fmt,
+    hash::{Hash, Hasher},
+    iter,
+};
 
 use crate::{
     calls::Places,
@@ -61,6 +65,11 @@ impl<'s> SyntaxToken<'s> {
         iter::successors(self.parent(), SyntaxNode::parent)
     }
 
+    /// The same as [`ancestors`](SyntaxToken::ancestors): rowan has both names, and advises this one.
+    pub fn parent_ancestors(&self) -> impl Iterator<Item = SyntaxNode<'s>> {
+        self.ancestors()
+    }
+
     /// The root.
     pub fn tree_top(&self) -> SyntaxNode<'s> {
         self.0.tree_top()
@@ -104,6 +113,12 @@ impl PartialEq for SyntaxToken<'_> {
 }
 
 impl Eq for SyntaxToken<'_> {}
+
+impl Hash for SyntaxToken<'_> {
+    fn hash<H: Hasher>(&self, state: &mut H) {
+        self.0.hash(state);
+    }
+}
 
 impl fmt::Debug for SyntaxToken<'_> {
     fn fmt(&self, f: &mut fmt::Formatter<'_>) -> fmt::Result {

@@ -219,6 +219,7 @@ impl Registers {
 
 /// What the run of a builder's events gave.
 #[derive(Debug, Clone)]
+#[non_exhaustive]
 pub struct Run {
     /// The element that each accepted call yielded: a token, a finished node, or none by a start. Calls are counted as in
     /// [`BuildError::Refused`].
@@ -229,6 +230,7 @@ pub struct Run {
 
 /// Why [`GreenNodeBuilder::finish`] made no tree.
 #[derive(Debug, Clone, Copy, PartialEq, Eq)]
+#[non_exhaustive]
 pub enum BuildError {
     /// An event was refused; those before it stay.
     Refused {

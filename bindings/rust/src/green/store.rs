@@ -41,6 +41,7 @@ pub struct Store<'b> {
 
 /// What the store keeps of an element.
 #[derive(Debug, Clone, Copy, PartialEq, Eq)]
+#[non_exhaustive]
 pub struct Record {
     /// Its kind.
     pub kind: SyntaxKind,
