@@ -43,7 +43,7 @@ module _ {s : Store} (v : Valid s) (e : Entry) (r : Search) (f : found r ≡ reu
 
     -- by the test of room for what the entry has of its own
     module _ (small : isTooLarge (e .tree) ≡ false) {places bytes : ℕ} (own : places ≡ length (e .children)) (text : bytes ≡ ownBytes (e .tree))
-        {b : Bool} (room : b ≡ hasRoom s places bytes) where
+        {b : Bool} (room : b ≡ hasRoom s 1 places bytes) where
       overfull : isOverfull (lent s) (entries s ++ (e ∷ [])) ≡ not b
       overfull =
           overfull-push (lent s) (entries s) e

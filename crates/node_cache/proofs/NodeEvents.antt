@@ -71,7 +71,7 @@ module _ {s : Store} (v : Valid s) (k : ℕ) (ns : List ℕ) (r : Search) (f : f
     pub node-large : not w ≡ true → Done s s (share (limits s) (entries s) e) (Refused TooLarge)
     node-large q = event-large v e r f p (sym too-large ∙ q)
 
-    module _ (fits : not w ≡ false) {b : Bool} (room : b ≡ hasRoom s (length ns) 0) where
+    module _ (fits : not w ≡ false) {b : Bool} (room : b ≡ hasRoom s 1 (length ns) 0) where
       small : isTooLarge (e .tree) ≡ false
       small = sym too-large ∙ fits
 

@@ -37,7 +37,7 @@ module _ {s : Store} (v : Valid s) (k : ℕ) (src : List ℕ) (r : Search) (f : 
   unfolding isTooLarge exceedsLimits childrenOf count height size textLen
   token-large l = event-large v (tokenEntry k src) r f p (lt-ltb 4294967295 (length src) l)
 
-  module _ (l : length src ≤ 4294967295) {b : Bool} (room : b ≡ hasRoom s 0 (length src)) where
+  module _ (l : length src ≤ 4294967295) {b : Bool} (room : b ≡ hasRoom s 1 0 (length src)) where
     small : isTooLarge (token k src) ≡ false
     unfolding isTooLarge exceedsLimits childrenOf count height size textLen
     small = le-ltb 4294967295 (length src) l

@@ -3,7 +3,6 @@
 
 ghost use mathlib.Core.Path.{_≡_};
 ghost use mathlib.Core.Bool.{true};
-ghost use Prim.Native.Nat.{_≤_};
 ghost use Rattle.definitions.specs.Entry.{tokenEntry, nodeEntry};
 ghost use Rattle.definitions.specs.NodeCache.{share};
 ghost use Rattle.green.specs.Store.{here, entered, entries, stores};
@@ -32,10 +31,10 @@ fn has_event_room(
     places: usize,
     bytes: usize,
 ) -> bool
-    requires { ⌜ Valid (here records children text used) × (places ≤ 4294967295) × (bytes ≤ 4294967295) ⌝ }
-    ensures { λ r. ⌜ r ≡ hasRoom (entered records children text used) places bytes ⌝ }
+    requires { ⌜ Valid (here records children text used) ⌝ }
+    ensures { λ r. ⌜ r ≡ hasRoom (entered records children text used) 1 places bytes ⌝ }
 {
-    limits::has_room(records, children, text, used, places, bytes)
+    limits::has_room(records, children, text, used, 1, places, bytes)
 }
 
 // A token event.
