@@ -56,7 +56,9 @@ impl Refusal {
             SkipTooEarly,
         ];
         let found = all.into_iter().find(|refusal| refusal.number() == number);
-        found.unwrap_or_else(|| panic!("the archive knows refusal {number}, this crate does not: build both from one tree"))
+        found.unwrap_or_else(|| {
+            panic!("the archive knows refusal {number}, this crate does not: build both from one tree")
+        })
     }
 
     fn sentence(self) -> &'static str {

@@ -76,7 +76,7 @@ impl<'s> SyntaxText<'s> {
         (outcome == ffi::NUMBER).then_some(words[0] as TextSize)
     }
 
-    /// The character at an offset; none at the end and past it.
+    /// The character that starts at an offset, if the text goes on there.
     pub fn char_at(&self, offset: TextSize) -> Option<char> {
         let mut words = Words::default();
         let outcome = self.ask(ffi::CHAR_AT, offset as usize, &mut words);

@@ -401,7 +401,7 @@ fn elements_of_another_store_are_refused() {
 fn refused(builder: GreenNodeBuilder) -> (Refusal, usize, usize) {
     match builder.finish(&mut Store::new()).unwrap_err() {
         BuildError::Refused { refusal, event, call } => (refusal, event, call),
-        BuildError::TooManyCheckpoints => panic!("too many checkpoints"),
+        other => panic!("{other}"),
     }
 }
 

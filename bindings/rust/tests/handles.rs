@@ -70,6 +70,7 @@ fn carried_over() {
     let green = builder.finish(&mut store).unwrap();
     let mut fresh = Store::new();
     let carried = root(&store, green).to_builder().finish(&mut fresh).unwrap();
-    let shape = |node: &SyntaxNode| -> Vec<String> { node.descendants_with_tokens().map(|it| format!("{it:?}")).collect() };
+    let shape =
+        |node: &SyntaxNode| -> Vec<String> { node.descendants_with_tokens().map(|it| format!("{it:?}")).collect() };
     assert_eq!(shape(&root(&fresh, carried)), shape(&root(&store, green)));
 }

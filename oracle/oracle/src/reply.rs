@@ -2,7 +2,7 @@
 
 use std::fmt::{self, Display};
 
-/// An element as answers name it: path, kind, range and token or node.
+/// An element in an answer: where it stands, and what it is.
 #[derive(Debug, Clone, PartialEq, Eq)]
 pub struct Element {
     pub is_node: bool,

@@ -277,7 +277,7 @@ fn same_element_compares_record_and_offset() {
 }
 
 #[test]
-fn a_skip_turns_a_coming_enter_into_leave_of_the_parent() {
+fn a_skip_leaves_the_parent_of_what_would_be_entered() {
     let mut both = deep();
     both.expect(walk_begin(true, 6, &[]), "ok");
     both.expect(WALK_NEXT, "enter node 1 0 3 0");
@@ -286,7 +286,7 @@ fn a_skip_turns_a_coming_enter_into_leave_of_the_parent() {
     both.expect(WALK_SKIP, "ok");
     both.expect(WALK_SKIP, "ok");
     both.expect(WALK_NEXT, "leave node 3 0 1 2 0 0");
-    // After a Leave it passes over later siblings.
+    // Where an element was just left, its later siblings are skipped.
     both.expect(WALK_SKIP, "ok");
     both.expect(WALK_NEXT, "leave node 2 0 2 1 0");
     both.expect(WALK_NEXT, "enter node 4 2 3 1 1");

@@ -134,7 +134,7 @@ fn refusal_4_paths() {
 }
 
 #[test]
-fn refusal_4_a_node_needed_and_a_token_named() {
+fn refusal_4_a_token_where_a_node_is_wanted() {
     let mut both = with_tree_t();
     let nodes_only = [
         Step::FirstChild,

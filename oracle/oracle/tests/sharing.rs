@@ -24,7 +24,7 @@ fn mark(model: &mut Model, number: u32) -> Reply {
     model.answer(&Call::Mark { number })
 }
 
-/// Every token; a node of at most three children, none with mark 0.
+/// Tokens are, and nodes of up to three children unless one of these has mark 0.
 fn is_sharable(model: &mut Model, number: u32) -> bool {
     let Some(children) = model.children(number).map(<[u32]>::to_vec) else {
         return true;

@@ -220,7 +220,8 @@ impl<'s> SyntaxNode<'s> {
         PreorderWithTokens::new(self)
     }
 
-    /// The nonempty tokens whose closed range holds the offset. [`Refusal::Outside`] if it is outside of the node.
+    /// The token that the offset lies in, or the two that meet there; empty tokens are passed over. [`Refusal::Outside`] if the
+    /// offset is outside of the node.
     pub fn token_at_offset(&self, offset: TextSize) -> Result<TokenAtOffset<SyntaxToken<'s>>, Refusal> {
         let Handle { store, root, ref at } = self.0;
         let found = store.places.token_at_offset(root, &at.path, offset)?;

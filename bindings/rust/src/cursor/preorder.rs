@@ -182,8 +182,8 @@ impl<'s> Preorder<'s> {
         iter::from_fn(move || self.0.enter().map(|step| SyntaxNode(step.handle)))
     }
 
-    /// Turns a coming Enter into Leave of that node's parent. After an Enter this passes over the node's children, after a
-    /// Leave over its later siblings. [`Refusal::SkipTooEarly`] before the first event.
+    /// If the walk would enter a node next, it leaves that node's parent instead: children are passed over after an Enter,
+    /// the siblings that are left after a Leave. [`Refusal::SkipTooEarly`] before the first event.
     pub fn skip_subtree(&mut self) -> Result<(), Refusal> {
         self.0.skip_subtree()
     }
@@ -216,7 +216,7 @@ impl<'s> PreorderWithTokens<'s> {
         iter::from_fn(move || self.0.enter().map(Step::element))
     }
 
-    /// Turns a coming Enter into Leave of that element's parent: as of [`Preorder`].
+    /// As [`Preorder::skip_subtree`], tokens being passed over too.
     pub fn skip_subtree(&mut self) -> Result<(), Refusal> {
         self.0.skip_subtree()
     }

@@ -9,13 +9,13 @@ pub fn of_words(words: impl IntoIterator<Item = u64>) -> u64 {
     })
 }
 
-/// A token takes its kind, each byte, then 255.
+/// Of a token: the kind first, then byte after byte, and 255 where the text ends.
 pub fn of_token(kind: u16, text: &[u8]) -> u64 {
     let bytes = text.iter().map(|it| u64::from(*it));
     of_words([kind.into()].into_iter().chain(bytes).chain([255]))
 }
 
-/// A node takes its kind, then each child's hash; one that is not sharable has hash 0.
+/// Of a node: the kind first, then the hashes of its children. 0 if it is not sharable.
 pub fn of_node(kind: u16, children: &[u64]) -> u64 {
     if !is_sharable(children) {
         return 0;

@@ -43,7 +43,7 @@ fn siblings<'a>(
     successors(beside(cursor), beside)
 }
 
-/// Goes down first (or last) children until a token or a childless node; the latter gives none.
+/// The token at the end of first (or last) children. There is none where a node without children stands at that end.
 fn end_token<'a>(
     mut cursor: Cursor<'a>,
     child: fn(&Cursor<'a>) -> Option<Cursor<'a>>,
@@ -54,8 +54,8 @@ fn end_token<'a>(
     Some(cursor)
 }
 
-/// The first token of the next sibling, or of the next sibling of the lowest ancestor having one;
-/// or the mirror image.
+/// The first token of what comes after this one: of its next sibling, or of the nearest ancestor's that has one. The other way round, the last
+/// token of what comes before.
 fn near_token<'a>(
     token: Cursor<'a>,
     beside: fn(&Cursor<'a>) -> Option<Cursor<'a>>,
@@ -68,7 +68,7 @@ fn near_token<'a>(
     Ok(sibling.and_then(|it| end_token(it, child)))
 }
 
-/// The nonempty tokens whose closed range holds the offset, in order.
+/// The tokens that have the offset inside or at an end; those without text do not count.
 pub fn token_at_offset(cursor: Cursor, offset: u32) -> Result<Reply, Refusal> {
     let cursor = cursor.node()?;
     if !holds(&cursor, offset) {
@@ -112,8 +112,8 @@ pub fn child_or_token_at_range(
     Ok(child_at_range(&cursor, start, end).map(|it| it.element()))
 }
 
-/// Nonempty range: the child that contains it. Empty range at p: the child around p; else the
-/// last child ending at p; else the first child, if it starts at p.
+/// A range of some bytes is looked for in one child. An empty one is inside a child, or behind the last child that ends
+/// there, or, at the front, before the first.
 fn child_at_range<'a>(cursor: &Cursor<'a>, start: u32, end: u32) -> Option<Cursor<'a>> {
     let find = |qualifies: &dyn Fn(&Cursor) -> bool| cursor.children().find(|it| qualifies(it));
     if start < end {
@@ -124,7 +124,7 @@ fn child_at_range<'a>(cursor: &Cursor<'a>, start: u32, end: u32) -> Option<Curso
         .or_else(|| cursor.child(0).filter(|it| it.start() == start))
 }
 
-/// The descent stops at the first element no child of which qualifies.
+/// Down from child to child, as long as one of them has the range.
 pub fn covering_element(cursor: Cursor, start: u32, end: u32) -> Result<Element, Refusal> {
     let mut cursor = cursor.node()?;
     if start > end || start < cursor.start() || end > cursor.end() {

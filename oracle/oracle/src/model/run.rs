@@ -138,7 +138,7 @@ impl Builder<'_> {
         Ok(number)
     }
 
-    /// `finish` wants exactly one waiting element, a node.
+    /// What waits at the end must be a node, and nothing besides.
     fn end(self) -> Result<u32, Refusal> {
         if !self.text_left.is_empty() {
             return Err(Refusal::BAD_TEXT);

@@ -14,7 +14,7 @@ type Chunk = Range<usize>;
 pub struct Text {
     /// The node whose text it was; a slice keeps it, for its tokens give the chunks.
     node: Path,
-    /// Counted from the start of the path's root.
+    /// Offset 0 is where the root starts.
     start: u32,
     end: u32,
     /// All chunks, once they have been asked for.
@@ -158,7 +158,7 @@ impl Text {
     }
 }
 
-/// One chunk comes for each token in order whose range meets the slice, touching included.
+/// Each token that overlaps the slice, or only touches it, gives a chunk, in order.
 fn push_chunks(cursor: &Cursor, start: u32, end: u32, chunks: &mut Vec<Chunk>) {
     if cursor.end() < start || cursor.start() > end {
         return;

@@ -99,7 +99,7 @@ impl Walk {
         self.tokens || cursor.is_node()
     }
 
-    /// Turns a coming Enter into Leave of that element's parent.
+    /// What would be entered next is passed over, and its parent left.
     fn skip(&mut self) -> Reply {
         if self.is_new {
             return Reply::Refused(Refusal::SKIP_BEFORE_FIRST);

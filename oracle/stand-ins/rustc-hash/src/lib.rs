@@ -1,5 +1,5 @@
-//! Stands for the crate rustc-hash, written from document 01: a mark is 64 bits, from 0; taking a
-//! word is to rotate left by 5, exclusive-or with the word and multiply by `FACTOR` modulo 2^64.
+//! Stands for the crate rustc-hash, written from document 01: the hash starts at 0, and each word that comes turns it by five bits,
+//! is mixed in by exclusive or, and the result is multiplied by `FACTOR`, of which 64 bits stay.
 //! Every number written is one word, and bytes are one word each, where the crate groups them.
 
 use std::hash::Hasher;
