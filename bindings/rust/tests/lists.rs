@@ -135,7 +135,7 @@ fn every_question_has_a_code_and_a_call() {
     assert!(variants.len() >= 20, "{variants:?}");
 }
 
-/// What is exported is declared in the header and listed in INTERFACE.md, and the header declares nothing else.
+/// What is exported is declared in the header, which declares nothing else, and the Rust declarations name nothing that is not exported.
 #[test]
 fn exported_calls_are_declared() {
     let sources = [files("crates/cursor_ffi/src", ".rt"), files("crates/notes_tree_ffi/src", ".rt")].concat().concat();
