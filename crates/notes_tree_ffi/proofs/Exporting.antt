@@ -26,7 +26,7 @@ use Rattle.query.specs.declared.reply.Reply.{Reply}
 use Rattle.query.specs.Answered.{Answered}
 use Rattle.sheet.specs.declared.Ended.{Ended}
 use Rattle.sheet_run.specs.RunDone.{RunDone, YieldsDone}
-use Rattle.definitions.specs.EditCall.{Edit, makes}
+use Rattle.notes_tree.specs.History.{Edit, makes}
 use Rattle.notes_tree.specs.Demand3.{WalkDone}
 use Rattle.abi.specs.Outcomes.{told, unknown, Written, endedTold, madeTold, replyTold, eventTold, movedTold, stopOutcome, chunkTold}
 use Rattle.abi.specs.WalkWords.{walkComing, walkDepth, walkStart, walkRoot, walkTokens, WalkInWords, movedOn, begunIn, skippedIn}

@@ -11,8 +11,7 @@ use Rattle.green.specs.Valid.{Valid}
 use Rattle.green_new.specs.Done.{Done}
 use Rattle.sheet.specs.declared.Ended.{Ended}
 use Rattle.sheet_run.specs.RunDone.{RunDone, YieldsDone}
-use Rattle.definitions.specs.EditCall.{Edit, makes}
-use Rattle.notes_tree.specs.History.{Write, Wrote, Call, Performed, History}
+use Rattle.notes_tree.specs.History.{Edit, makes, Write, Wrote, Call, Performed, History}
 use Rattle.preorder.specs.declared.state.Coming.{Coming}
 use Rattle.preorder.specs.declared.state.Moved.{Moved}
 use Rattle.preorder.specs.declared.state.Step.{Step}

@@ -1,7 +1,7 @@
 -- `notes_edit` meets its contract. Assumes nothing.
 use mathlib.Core.Path.{refl}
 use Rattle.abi.proofs.Telling.{missed, past-end, wordless}
-use Rattle.definitions.specs.EditCall.{Edit}
+use Rattle.notes_tree.specs.History.{Edit}
 use Rattle.notes_tree_ffi.specs.Exports.{edits}
 use Rattle.notes_tree_ffi.proofs.Going.{reached-valid}
 use Rattle.notes_tree_ffi.proofs.Exporting.{edit-told, no-edit}
