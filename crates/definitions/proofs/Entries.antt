@@ -88,6 +88,6 @@ module _ {es : List Entry} {ns : List ℕ} {i : ℕ} (f : PresentSoFar es ns i) 
   present-all h = ap not (rw (drop-of-length-le ns h) at (f .rest))
 
 -- a number that names an element
-pub named : (es : List Entry) (n : ℕ) → isAbsent es n ≡ false → n < length es
+pub named-there : (es : List Entry) (n : ℕ) → isAbsent es n ≡ false → n < length es
 unfolding isAbsent
-named es n q = ltb-true n (length es) (not-false _ q)
+named-there es n q = ltb-true n (length es) (not-false _ q)

@@ -13,7 +13,8 @@ use Rattle.green.specs.Layout.{tag, ownCount, ownFirst, recordWords, wor
 use Rattle.green.specs.Store.{Store, lent, wordsAt, numbers, tagged, entryIn, entriesTo, entries}
 use Rattle.green.specs.Valid.{Encodes}
 use Rattle.green.proofs.Lists.{slice-mid}
-use Rattle.green.proofs.Written.{allRecords-append, allChildren-append, allText-append, allRecords-length, allChildren-length, allText-length, ownText-length, childWords-length, childWords-numbers, treesAt-append}
+use Rattle.green.proofs.Written.{allRecords-append, allChildren-append, allText-append, allRecords-length, allChildren-length, allText-length, ownText-length, childWords-length, childWords-numbers}
+use Rattle.definitions.proofs.Kept.{treesAt-append}
 
 -- the words of a record are decoded to the entry that they were written for
 module _ (es : List Entry) (first : ℕ) (cs tx : List ℕ) where

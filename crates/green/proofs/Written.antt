@@ -3,9 +3,9 @@ use Prim.Native.Nat.{ℕ, zero, suc, _+_, _*_, _%_, _^_, _≤_, _<_}
 use native.Mathlib.Omega.{arith}
 use mathlib.Core.Path.{_≡_, refl, ap, _∙_}
 use mathlib.Core.List.{List, [], _∷_, _++_, append-assoc, flatMap}
-use lib.ListN.{length, getD, length-append, List·getD-append}
+use lib.ListN.{length, getD, length-append}
 use Rattle.definitions.specs.Tree.{Tree, token, node, Forest, nil, cons, childrenOf, textLen, offsetOf}
-use Rattle.definitions.specs.Entry.{Entry, absent, treesAt, childPlaces, textBytes, ownBytes}
+use Rattle.definitions.specs.Entry.{Entry, childPlaces, textBytes, ownBytes}
 use Rattle.green.specs.Layout.{childWords, ownText, allRecords, allChildren, allText}
 use Rattle.green.specs.Store.{numbers}
 use Rattle.green.specs.Valid.{AllBelow}
@@ -47,12 +47,6 @@ allRecords-length c t (e ∷ es) = omega (arith, allRecords-length (c + length (
 
 low : (n o : ℕ) → n < 2 ^ 32 → (n + 2 ^ 32 * o) % 2 ^ 32 ≡ n
 low n o h = omega arith
-
--- numbers that stand below a list name the same in a longer one
-pub treesAt-append : (es xs : List Entry) (ns : List ℕ) → AllBelow (length es) ns → treesAt (es ++ xs) ns ≡ treesAt es ns
-unfolding treesAt AllBelow
-treesAt-append es xs [] h = refl
-treesAt-append es xs (n ∷ ns) h = cc (List·getD-append es xs absent n (h .0), treesAt-append es xs ns (h .1))
 
 pub childWords-length : (ns : List ℕ) (f : Forest) (o : ℕ) → length (childWords ns f o) ≡ length ns
 unfolding childWords

@@ -11,7 +11,7 @@ use Rattle.green.specs.Valid.{Valid}
 use Rattle.green_new.specs.Done.{Done}
 use Rattle.sheet.specs.declared.Ended.{Ended}
 use Rattle.sheet_run.specs.RunDone.{RunDone, YieldsDone}
-use Rattle.notes_tree.specs.History.{Edit, makes, Call, Performed, History}
+use Rattle.notes_tree.specs.History.{Edit, makes, Write, Wrote, Call, Performed, History}
 use Rattle.preorder.specs.declared.state.Coming.{Coming}
 use Rattle.preorder.specs.declared.state.Moved.{Moved}
 use Rattle.preorder.specs.declared.state.Step.{Step}
@@ -26,11 +26,11 @@ pub reached-valid : {s : Store} → Reached s → Valid s
 reached-valid h = demand3 (h .history) .valid
 
 pub run-on : {s s′ : Store} {sheet text yields′ : List ℕ} {r : Ended} (yields : List ℕ) → length yields ≡ 4096
-    → RunDone (both s s′) sheet text r → YieldsDone s (both yields yields′) sheet text → GoesOn s s′ (Call.run sheet text r yields′)
-run-on yields f d y = record { history = λ calls h. History.call h (Performed.run yields f d y) }
+    → RunDone (both s s′) sheet text r → YieldsDone s (both yields yields′) sheet text → GoesOn s s′ (Call.write (Write.run sheet text r yields′))
+run-on yields f d y = record { history = λ calls h. History.call h (Performed.write (Wrote.run yields f d y)) }
 
-pub edit-on : (e : Edit) {s s′ : Store} {r : Made} → Done s s′ (makes e (limits s) (entries s)) r → GoesOn s s′ (Call.edit e r)
-edit-on e d = record { history = λ calls h. History.call h (Performed.edit {e = e} d) }
+pub edit-on : (e : Edit) {s s′ : Store} {r : Made} → Done s s′ (makes e (limits s) (entries s)) r → GoesOn s s′ (Call.write (Write.edit e r))
+edit-on e d = record { history = λ calls h. History.call h (Performed.write (Wrote.edit {e = e} d)) }
 
 -- calls that carry on a walk
 pub next-on : {es : List Entry} {n : ℕ} {tokens : Bool} {start depth : ℕ} {coming : Coming} {l l′ : List ℕ} {r : Step}

@@ -23,7 +23,7 @@ use Rattle.query.specs.declared.reply.Reply.{Reply}
 use Rattle.query.specs.Answered.{Answered}
 use Rattle.sheet.specs.declared.Ended.{Ended}
 use Rattle.sheet_run.specs.RunDone.{RunDone, YieldsDone}
-use Rattle.notes_tree.specs.History.{Call, Edit, makes}
+use Rattle.notes_tree.specs.History.{Write, Call, Edit, makes}
 use Rattle.notes_tree.specs.Demand3.{WalkCall, WalkAnswer, whyNoMore, WalkDone}
 use Rattle.abi.specs.Outcomes.{told, unknown, Written, endedTold, madeTold, replyTold, summaryTold, childTold, eventTold, movedTold, stopOutcome, chunkTold}
 use Rattle.abi.specs.WalkWords.{walkComing, walkDepth, walkStart, walkRoot, walkTokens, WalkInWords, movedOn, begunIn, skippedIn}
@@ -38,7 +38,7 @@ pub record RunTold (s : Both Store Store) (yields : Lent) (sheet source : List �
   pub ended : Ended
   pub done : RunDone s sheet source ended
   pub yielded : YieldsDone (s .entry) yields sheet source
-  pub carries : Carries s (Call.run sheet source ended (yields .exit))
+  pub carries : Carries s (Call.write (Write.run sheet source ended (yields .exit)))
   pub written : Written (endedTold ended) (words .entry) (words .exit) x
 
 -- THE EDITS, each at the place that is its code; numbers that an edit does not use do not matter
@@ -52,7 +52,7 @@ editOf code n from to news path = getElem? (edits n from to news path) code
 pub record Edited (s : Both Store Store) (e : Edit) (words : Lent) (x : ℕ) : Type 0 where
   pub made : Made
   pub done : Done (s .entry) (s .exit) (makes e (limits (s .entry)) (entries (s .entry))) made
-  pub carries : Carries s (Call.edit e made)
+  pub carries : Carries s (Call.write (Write.edit e made))
   pub written : Written (madeTold made) (words .entry) (words .exit) x
 
 -- there is no edit of that code

@@ -1,0 +1,5 @@
+pub mod ChildTrees
+pub mod SharedEvents
+pub mod TreeBuilding
+pub mod TreeEdits
+pub mod Logs
