@@ -1,0 +1,4 @@
+pub mod Storing
+pub mod Walking
+pub mod Reading
+pub mod Settled
