@@ -1,12 +1,11 @@
 -- Which outcome and which words each answer is.
 use Prim.Native.Nat.{ℕ, zero, suc, _+_}
 use mathlib.Core.Path.{_≡_}
-use mathlib.Core.List.{List, [], _∷_, _++_}
+use mathlib.Core.List.{List, [], _∷_}
 use mathlib.Core.Bool.{Bool, true, false}
 use lib.Seq.{sets}
 use denote.Ref.{now}
 use Rattle.green.specs.Store.{Lists}
-use Rattle.green.specs.declared.element.Summary.{Summary}
 use Rattle.green.specs.declared.element.Summarized.{Summarized}
 use Rattle.green.specs.declared.element.Summarized.the-variants as summarized
 use Rattle.green.specs.declared.node.ChildAt.{ChildAt}

@@ -1,11 +1,12 @@
--- The exported questions answer alike at two trees that are spelled alike, in one store or in two: `questions-alike` of each question of one
--- element, `tokens-alike` of the tokens at an offset, `texts-alike` of a token's text. Nothing cites them; they say what demand 3 says of `query`. Assumes nothing.
-use Prim.Native.Nat.{ℕ, zero, suc, _+_, _-_, _≤_}
+-- The exported questions answer alike at two trees that are spelled alike, in one store or in two: outcome, words and paths are equal. `questions-alike`
+-- says it of every question of one element, `tokens-alike` of the tokens at an offset, `texts-alike` of a token's text. They are cited nowhere, being what a
+-- caller may rely on. Assumes nothing.
+use Prim.Native.Nat.{ℕ, _+_, _-_, _≤_}
 use native.Mathlib.Omega.{arith}
-use mathlib.Core.Path.{_≡_, refl, sym, ap, ap₂, subst, _∙_}
+use mathlib.Core.Path.{_≡_, refl, sym, ap, _∙_}
 use mathlib.Core.List.{List, [], _∷_}
-use mathlib.Core.Bool.{Bool, true, false, cond, _&&_, not, _||_}
-use mathlib.Core.Option.{Option, none, some, bind}
+use mathlib.Core.Bool.{Bool, true, false, cond, _&&_, not}
+use mathlib.Core.Option.{Option, none, some}
 use lib.Dec.{eqb, ltb}
 use lib.ListN.{length, getD, take, drop}
 use lib.Seq.{sets}
@@ -63,17 +64,20 @@ module _ {a a′ : Result query.Answer} (e : a ≡ a′) {l l₁ l₂ m m₁ m�
   pub same-question : QuestionExported a l l₁ m m₁ x₁ → QuestionExported a′ l l₂ m m₂ x₂ → SameOutput m₁ m₂ x₁ x₂ × (l₁ ≡ l₂)
   same-question t u =
       let v = answer-exactly l l₁ (t .answer) h (t .tells) in
-      let w = answer-exactly l l₂ (u .answer) k (u .tells) in
-      (same-output (answer-told (t .answer) ∙ ap replyTold (v .reply ∙ ap replyTo e ∙ sym (w .reply)) ∙ sym (answer-told (u .answer))) (t .written) (u .written),
-      v .path ∙ ap (λ y. pathAfter y l) e ∙ sym (w .path))
+      let w = answer-exactly l l₂ (u .answer) k (u .tells) in (
+        same-output (answer-told (t .answer) ∙ ap replyTold (v .reply ∙ ap replyTo e ∙ sym (w .reply)) ∙ sym (answer-told (u .answer))) (t .written) (u .written),
+        v .path ∙ ap (λ y. pathAfter y l) e ∙ sym (w .path),
+      )
 
   pub same-tokens : {r r₁ r₂ : List ℕ} → length r₁ ≡ 64 → length r₂ ≡ 64 → TokensExported a l l₁ r r₁ m m₁ x₁ → TokensExported a′ l l₂ r r₂ m m₂ x₂
       → SameOutput m₁ m₂ x₁ x₂ × (l₁ ≡ l₂) × (r₁ ≡ r₂)
   same-tokens {r} {r₁} {r₂} f g t u =
       let v = tokens-exactly l l₁ r r₁ (t .tokens) h f (t .tells) in
-      let w = tokens-exactly l l₂ r r₂ (u .tokens) k g (u .tells) in
-      (same-output (tokens-told (t .tokens) ∙ ap replyTold (v .reply ∙ ap replyTo e ∙ sym (w .reply)) ∙ sym (tokens-told (u .tokens))) (t .written) (u .written),
-      v .path ∙ ap (λ y. pathAfter y l) e ∙ sym (w .path), v .other ∙ ap (λ y. otherAfter y r) e ∙ sym (w .other))
+      let w = tokens-exactly l l₂ r r₂ (u .tokens) k g (u .tells) in (
+        same-output (tokens-told (t .tokens) ∙ ap replyTold (v .reply ∙ ap replyTo e ∙ sym (w .reply)) ∙ sym (tokens-told (u .tokens))) (t .written) (u .written),
+        v .path ∙ ap (λ y. pathAfter y l) e ∙ sym (w .path),
+        v .other ∙ ap (λ y. otherAfter y r) e ∙ sym (w .other),
+      )
 
 -- the bytes of the lent text b that an outcome x and its words m name: those of a chunk
 abbrev pub bytesTold : List ℕ → ℕ → List ℕ → List ℕ

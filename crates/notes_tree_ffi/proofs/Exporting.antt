@@ -7,7 +7,6 @@ use mathlib.Core.Bool.{Bool}
 use mathlib.Core.Option.{Option, none, some, Option·none-ne-some, Option·some-injective}
 use lib.ListN.{length, getD, set}
 use lib.Seq.{sets}
-use Rattle.definitions.specs.Entry.{Entry}
 use Rattle.utility_types.specs.declared.Made.{Made}
 use Rattle.green.specs.Store.{Store, lent, entries, both}
 use Rattle.green_new.specs.Done.{Done}

@@ -131,10 +131,12 @@ module _ (s : Store) (v : Valid s) (root depth : ℕ) (l : List ℕ) (start stop
   by-parts : a .outcome ≡ b .outcome → chunkGiven w₁ ≡ chunkGiven w₂ → chunkKept w₁ ≡ chunkKept w₂ → q₁ ≡ q₂ → Same
   by-parts o g f p =
       let there : PartLies (entries s) root depth l start stop (chunkGiven w) (a .outcome) text (b .part) =
-      subst (λ n. PartLies (entries s) root depth l start stop (chunkGiven w) n text (b .part)) (sym o) (b .lies) in
-      (two-words w₁ w₂ h k g f, p,
-      same-output (one-place (entries s) root depth l start stop (chunkGiven w) (a .outcome) text (a .part) (b .part) (a .lies) there
-      ∙ ap (λ n. chunkTold n (b .part .from) (b .part .to)) o) (a .written) (b .written))
+      subst (λ n. PartLies (entries s) root depth l start stop (chunkGiven w) n text (b .part)) (sym o) (b .lies) in (
+        two-words w₁ w₂ h k g f,
+        p,
+        same-output (one-place (entries s) root depth l start stop (chunkGiven w) (a .outcome) text (a .part) (b .part) (a .lies) there
+            ∙ ap (λ n. chunkTold n (b .part .from) (b .part .to)) o) (a .written) (b .written),
+      )
 
   at-node : isNodeAt (entries s) root ≡ true → Same
   at-node i =

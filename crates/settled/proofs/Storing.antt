@@ -110,9 +110,11 @@ child-told (child.Refused x) = refl
 pub run-once : (s s₁ s₂ : Store) (y y₁ y₂ sheet source m m₁ m₂ : List ℕ) (x₁ x₂ : ℕ)
     → RunExported (both s s₁) (both y y₁) sheet source (both m m₁) x₁ → RunExported (both s s₂) (both y y₂) sheet source (both m m₂) x₂
     → (s₁ ≡ s₂) × (y₁ ≡ y₂) × SameOutput m₁ m₂ x₁ x₂
-run-once s s₁ s₂ y y₁ y₂ sheet source m m₁ m₂ x₁ x₂ a b =
-    (run-store s s₁ s₂ (a .done) (b .done), a .yielded ∙ sym (b .yielded),
-    same-output (ended-told (a .ended) ∙ ap toldEnd (a .done .answers ∙ sym (b .done .answers)) ∙ sym (ended-told (b .ended))) (a .written) (b .written))
+run-once s s₁ s₂ y y₁ y₂ sheet source m m₁ m₂ x₁ x₂ a b = (
+  run-store s s₁ s₂ (a .done) (b .done),
+  a .yielded ∙ sym (b .yielded),
+  same-output (ended-told (a .ended) ∙ ap toldEnd (a .done .answers ∙ sym (b .done .answers)) ∙ sym (ended-told (b .ended))) (a .written) (b .written),
+)
 
 pub edit-once : (s s₁ s₂ : Store) (o : Option Edit) (m m₁ m₂ : List ℕ) (x₁ x₂ : ℕ) → EditExported (both s s₁) o (both m m₁) x₁ → EditExported (both s s₂) o (both m m₂) x₂
     → (s₁ ≡ s₂) × SameOutput m₁ m₂ x₁ x₂
@@ -122,9 +124,10 @@ edit-once s s₁ s₂ none m m₁ m₂ x₁ x₂ a b =
     (c .store ∙ sym (d .store), same-output refl (c .written) (d .written))
 edit-once s s₁ s₂ (some e) m m₁ m₂ x₁ x₂ a b =
     let c = a .known e refl in
-    let d = b .known e refl in
-    (done-store s s₁ s₂ (c .done) (d .done),
-    same-output (made-told (c .made) ∙ ap toldNumber (c .done .answers ∙ sym (d .done .answers)) ∙ sym (made-told (d .made))) (c .written) (d .written))
+    let d = b .known e refl in (
+      done-store s s₁ s₂ (c .done) (d .done),
+      same-output (made-told (c .made) ∙ ap toldNumber (c .done .answers ∙ sym (d .done .answers)) ∙ sym (made-told (d .made))) (c .written) (d .written),
+    )
 
 pub element-once : (s : Store) (n : ℕ) (m m₁ m₂ : List ℕ) (x₁ x₂ : ℕ) → ElementExported s n (both m m₁) x₁ → ElementExported s n (both m m₂) x₂ → SameOutput m₁ m₂ x₁ x₂
 element-once s n m m₁ m₂ x₁ x₂ a b = same-output (summary-told (a .of) ∙ ap toldFields (a .is ∙ sym (b .is)) ∙ sym (summary-told (b .of))) (a .written) (b .written)

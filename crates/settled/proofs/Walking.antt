@@ -1,16 +1,12 @@
 -- What the calls on a walk promise is one outcome. Assumes nothing.
-use Prim.Native.Nat.{ℕ, zero, suc, _+_, _≤_}
-use native.Mathlib.Omega.{arith}
-use mathlib.Core.Path.{_≡_, refl, sym, ap, ap₂, subst, _∙_}
-use mathlib.Core.List.{List, [], _∷_, _++_}
-use mathlib.Core.Bool.{Bool, true, false}
-use lib.ListN.{length}
+use Prim.Native.Nat.{ℕ, _+_}
+use mathlib.Core.Path.{_≡_, refl, sym, ap, ap₂, _∙_}
+use mathlib.Core.List.{List, [], _∷_}
+use mathlib.Core.Bool.{Bool, true}
 use lib.Seq.{sets}
 use Rattle.definitions.specs.Prelude.{Result, ok, refused}
-use Rattle.definitions.specs.Entry.{Entry, treeAt}
 use Rattle.definitions.specs.Preorder.{Walk, WalkEvent}
 use Rattle.definitions.specs.Preorder as preorder
-use Rattle.utility_types.specs.Numbers.{refusalNumber}
 use Rattle.utility_types.specs.declared.WalkEvent.the-variants.{Enter, Leave}
 use Rattle.green.specs.Store.{Store, entries, both}
 use Rattle.preorder.specs.declared.state.Coming.{Coming}
@@ -24,7 +20,7 @@ use Rattle.preorder_many.specs.declared.state.Stop.{Stop}
 use Rattle.preorder_many.specs.declared.state.Stop.the-variants as stop
 use Rattle.notes_tree.specs.Demand3.{Returned, WalkState, WalkAnswer, WalkCall, WalkDone, Why, whyNoMore, skipAnswer, skippedTo}
 use Rattle.notes_tree.proofs.Carrying.{walk-same}
-use Rattle.abi.specs.Outcomes.{Output, told, doneOutcome, fullOutcome, noneOutcome, enterOutcome, leaveOutcome, bit, refusedBy, movedTold, givenTold, eventTold, SameOutput}
+use Rattle.abi.specs.Outcomes.{Output, told, doneOutcome, fullOutcome, noneOutcome, enterOutcome, leaveOutcome, bit, movedTold, givenTold, eventTold, SameOutput}
 use Rattle.abi.specs.WalkWords.{comingWord, movedOn, begunIn, skippedIn, walkRoot, walkTokens, walkStart, walkDepth, walkComing}
 use Rattle.notes_tree_ffi.specs.Goes.{walkState}
 use Rattle.notes_tree_ffi.specs.Exports.{WalkBegins, WalkSkips, WalkGives, WalkSteps}
@@ -131,9 +127,12 @@ module _ (s : Store) (w p : List ℕ) where
   many-once w₁ w₂ p₁ p₂ e e₁ e₂ m m₁ m₂ x₁ x₂ a b =
       let z = one-call (WalkCall.many e) _ _ (a .carried) (b .carried) in
       let y = ap (λ r. manyOf (r .answer)) z in
-      let t = ap (λ r. r .state) z in
-      (a .state ∙ ap₂ (movedOn w) (ap (λ (v : WalkState). v .coming) t) (ap (λ (v : WalkState). v .depth) t) ∙ sym (b .state), ap (λ (v : WalkState). v .path) t, ap (λ (v : Many). v .words) y,
-      same-output (given-told (a .given .stop) (a .given .count) ∙ ap (λ (v : Many). toldWhy (v .why) (v .count)) y ∙ sym (given-told (b .given .stop) (b .given .count))) (a .written) (b .written))
+      let t = ap (λ r. r .state) z in (
+        a .state ∙ ap₂ (movedOn w) (ap (λ (v : WalkState). v .coming) t) (ap (λ (v : WalkState). v .depth) t) ∙ sym (b .state),
+        ap (λ (v : WalkState). v .path) t,
+        ap (λ (v : Many). v .words) y,
+        same-output (given-told (a .given .stop) (a .given .count) ∙ ap (λ (v : Many). toldWhy (v .why) (v .count)) y ∙ sym (given-told (b .given .stop) (b .given .count))) (a .written) (b .written),
+      )
 
 abbrev toldEvent : ℕ → Result WalkEvent → Output
 toldEvent d (ok (preorder.WalkEvent.enter s)) = told enterOutcome (s .start ∷ s .end ∷ d ∷ s .kind ∷ bit (s .isNode) ∷ [])
@@ -157,6 +156,8 @@ module _ (s : Store) (w w₁ w₂ p p₁ p₂ m m₁ m₂ : List ℕ) (x₁ x₂
   next-once a b =
       let d = walkDepth w in
       let z = one-call s w p WalkCall.next _ _ (a .carried) (b .carried) in
-      let t = ap (λ r. r .state) z in
-      (a .state ∙ ap₂ (movedOn w) (ap (λ (v : WalkState). v .coming) t) (ap (λ (v : WalkState). v .depth) t) ∙ sym (b .state), ap (λ (v : WalkState). v .path) t,
-      same-output (event-told d p (a .step .answer) (a .named) ∙ ap (toldEvent d) (ap (λ r. nextOf (r .answer)) z) ∙ sym (event-told d p (b .step .answer) (b .named))) (a .written) (b .written))
+      let t = ap (λ r. r .state) z in (
+        a .state ∙ ap₂ (movedOn w) (ap (λ (v : WalkState). v .coming) t) (ap (λ (v : WalkState). v .depth) t) ∙ sym (b .state),
+        ap (λ (v : WalkState). v .path) t,
+        same-output (event-told d p (a .step .answer) (a .named) ∙ ap (toldEvent d) (ap (λ r. nextOf (r .answer)) z) ∙ sym (event-told d p (b .step .answer) (b .named))) (a .written) (b .written),
+      )
