@@ -146,12 +146,12 @@ abbrev pub bit : Bool → ℕ
 bit true = 1
 bit false = 0
 
-abbrev pub eventWords : SyntaxElement → List ℕ
-eventWords e = e .start ∷ e .end ∷ e .depth ∷ e .kind .0 ∷ bit (e .«is_node») ∷ []
+abbrev pub stepWords : SyntaxElement → List ℕ
+stepWords e = e .start ∷ e .end ∷ e .depth ∷ e .kind .0 ∷ bit (e .«is_node») ∷ []
 
 abbrev pub eventTold : walk.Answer → Output
-eventTold (event.Event (Enter e)) = told enterOutcome (eventWords e)
-eventTold (event.Event (Leave e)) = told leaveOutcome (eventWords e)
+eventTold (event.Event (Enter e)) = told enterOutcome (stepWords e)
+eventTold (event.Event (Leave e)) = told leaveOutcome (stepWords e)
 eventTold event.Ended = told noneOutcome []
 eventTold (event.Refused x) = refusedBy x
 

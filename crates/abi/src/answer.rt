@@ -8,7 +8,7 @@ ghost use mathlib.Core.List.{[], _∷_};
 ghost use Prim.Native.Nat.{_+_, _^_, _<_};
 ghost use Rattle.utility_types.specs.Numbers.{refusalNumber};
 ghost use Rattle.utility_types.specs.declared.TokenAtOffset.the-variants.{Between};
-ghost use Rattle.abi.specs.Outcomes.{told, elementKind, elementTold, eventWords, bit as bitOf, atOffsetTold, answerTold, tokensTold, truthTold, replyTold, madeTold, endedTold, eventTold, movedTold, givenTold, chunkTold, summaryTold, childTold, Puts};
+ghost use Rattle.abi.specs.Outcomes.{told, elementKind, elementTold, stepWords, bit as bitOf, atOffsetTold, answerTold, tokensTold, truthTold, replyTold, madeTold, endedTold, eventTold, movedTold, givenTold, chunkTold, summaryTold, childTold, Puts};
 use crate::Words;
 use cursor::position::Answer;
 use cursor_range::offset::Tokens;
@@ -160,7 +160,7 @@ pub fn put_ended(words: &mut Words, ended: Ended) -> usize
 }
 
 fn put_event(words: &mut Words, outcome: usize, e: SyntaxElement) -> usize
-    ensures { λ r. ⌜ Puts words (told outcome (eventWords e)) r ⌝ }
+    ensures { λ r. ⌜ Puts words (told outcome (stepWords e)) r ⌝ }
 {
     put_element(words, e);
     words[4] = bit(e.is_node);
