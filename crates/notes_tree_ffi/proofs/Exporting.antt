@@ -98,13 +98,13 @@ module _ {s : Store} {w w′ : List ℕ} (long : 8 ≤ length w) where
         → WalkSteps s (both w w′) (both l l′) (both m m′) x
     next-told {r} d f e v =
         let d₂ : Stepped s w l l′ (walkTokens w) (walkComing w) r = subst (λ k. Stepped s w l l′ (walkTokens w) k r) c (subst (λ b. Stepped s w l l′ b coming r) t d) in
-        record { step = r; carried = next-on d₂ f; named = d .named; state = e; keeps = subst WalkInWords (sym e) (moved-short w _ (r .depth) long (d .short)); written = v }
+        record { step = r; stepped = d₂; carried = next-on d₂ f; state = e; keeps = subst WalkInWords (sym e) (moved-short w _ (r .depth) long (d .short)); written = v }
 
     pub many-told : {q q′ : List ℕ} {g : Given} → Many s w l l′ tokens coming q q′ g → w′ ≡ movedOn w (g .coming) (g .depth) → OutputWritten (givenTold (g .stop) (g .count)) m m′ x
         → WalkGives s (both w w′) (both l l′) (both q q′) (both m m′) x
     many-told {q} {q′} {g} d e v =
         let d₂ : Many s w l l′ (walkTokens w) (walkComing w) q q′ g = subst (λ k. Many s w l l′ (walkTokens w) k q q′ g) c (subst (λ b. Many s w l l′ b coming q q′ g) t d) in
-        record { given = g; carried = WalkDone.many d₂; state = e; keeps = subst WalkInWords (sym e) (moved-short w _ (g .depth) long (d .short)); written = v }
+        record { given = g; gave = d₂; carried = WalkDone.many d₂; state = e; keeps = subst WalkInWords (sym e) (moved-short w _ (g .depth) long (d .short)); written = v }
 
 pub skip-told : {w w′ : List ℕ} {coming : Coming} {r : Moved} {x : ℕ} → 8 ≤ length w → WalkInWords w → coming ≡ walkComing w → walks.WalkSkipped (walkDepth w) coming r
     → w′ ≡ skippedIn w r → x ≡ movedTold r .outcome → WalkSkips (both w w′) x

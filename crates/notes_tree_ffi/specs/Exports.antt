@@ -14,8 +14,9 @@ use Rattle.green.specs.declared.node.ChildAt.{ChildAt}
 use Rattle.green_new.specs.Done.{Done}
 use Rattle.preorder.specs.declared.state.Moved.{Moved}
 use Rattle.preorder.specs.declared.state.Step.{Step}
-use Rattle.preorder.specs.Walks.{EventNamed, WalkBegun}
+use Rattle.preorder.specs.Walks.{nextOf, WalkStepped, WalkBegun}
 use Rattle.preorder_many.specs.declared.state.Given.{Given}
+use Rattle.preorder_many.specs.Many as many
 use Rattle.syntax_text_chunks.specs.declared.chunks.Part.{Part}
 use Rattle.syntax_text_chunks.specs.Chunks.{partOf, PartLies, ChunkStepped}
 use Rattle.query.specs.declared.question.Question.{Question}
@@ -91,7 +92,8 @@ pub record QueryExported (s : Store) (root depth : ℕ) (path other : LentList) 
   pub known : (q : Question) → o ≡ some q → Replied s root depth path other q words x
   pub foreign : o ≡ none → NoQuestion path other words x
 
--- A WALK: its beginning, its steps, a skip, and many steps at once; its words keep their invariant
+-- A WALK: its beginning, its steps, a skip, and many steps at once: what the functions of `preorder` and `preorder_many` promise, which are calls of the
+-- theorem's lists. The walk's words keep their invariant
 pub record WalkBegins (s : Store) (root : ℕ) (tokens : Bool) (depth : ℕ) (l : List ℕ) (walk : LentList) (x : ℕ) : Type 0 where
   pub moved : Moved
   pub begun : WalkBegun (entries s) root depth l moved
@@ -101,8 +103,9 @@ pub record WalkBegins (s : Store) (root : ℕ) (tokens : Bool) (depth : ℕ) (l 
 
 pub record WalkSteps (s : Store) (walk path words : LentList) (x : ℕ) : Type 0 where
   pub step : Step
+  pub stepped : WalkStepped (walkTokens (walk .entry)) (walkStart (walk .entry)) (walkDepth (walk .entry)) (path .entry) (path .exit) (walkComing (walk .entry))
+      (nextOf (entries s) (walkRoot (walk .entry)) (walkTokens (walk .entry)) (walkStart (walk .entry)) (walkDepth (walk .entry)) (path .entry) (walkComing (walk .entry))) step
   pub carried : WalkNextDone (entries s) (walkRoot (walk .entry)) (walkTokens (walk .entry)) (walkStart (walk .entry)) (walkDepth (walk .entry)) (walkComing (walk .entry)) (path .entry) (path .exit) step
-  pub named : EventNamed (walkDepth (walk .entry)) (step .answer)
   pub state : walk .exit ≡ movedOn (walk .entry) (step .coming) (step .depth)
   pub keeps : WalkInWords (walk .exit)
   pub written : OutputWritten (eventTold (step .answer)) (words .entry) (words .exit) x
@@ -116,6 +119,8 @@ pub record WalkSkips (walk : LentList) (x : ℕ) : Type 0 where
 
 pub record WalkGives (s : Store) (walk path events words : LentList) (x : ℕ) : Type 0 where
   pub given : Given
+  pub gave : many.ManyGiven (entries s) (walkRoot (walk .entry)) (walkTokens (walk .entry)) (walkStart (walk .entry)) (many.state (path .entry) (walkDepth (walk .entry)) (walkComing (walk .entry)))
+      (many.state (path .exit) (given .depth) (given .coming)) (events .entry) (events .exit) (given .count) (given .stop)
   pub carried : WalkDone (entries s) (walkRoot (walk .entry)) (walkState (walkTokens (walk .entry)) (walkStart (walk .entry)) (walkDepth (walk .entry)) (walkComing (walk .entry)) (path .entry)) (WalkCall.many (events .entry))
       (record {
         answer = WalkAnswer.many (given .count) (whyNoMore (given .stop)) (events .exit);

@@ -2,3 +2,4 @@ pub mod Storing
 pub mod Walking
 pub mod Reading
 pub mod Settled
+pub mod Refused

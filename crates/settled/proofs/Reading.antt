@@ -100,7 +100,7 @@ one-place es root depth l a b given zero text x y p q =
 one-place es root depth l a b given (suc zero) text x y p q = refl
 one-place es root depth l a b given (suc (suc o)) text x y p q = refl
 
-two-words : (c d : List ℕ) → length c ≡ 2 → length d ≡ 2 → getD c 0 0 ≡ getD d 0 0 → getD c 1 0 ≡ getD d 1 0 → c ≡ d
+pub two-words : (c d : List ℕ) → length c ≡ 2 → length d ≡ 2 → getD c 0 0 ≡ getD d 0 0 → getD c 1 0 ≡ getD d 1 0 → c ≡ d
 two-words c d a b x y = ext-getD 0 c d (a ∙ sym b) (λ i h. go i h)
   where
     go : (i : ℕ) → i < length c → getD c i 0 ≡ getD d i 0

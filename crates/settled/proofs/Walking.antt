@@ -159,5 +159,5 @@ module _ (s : Store) (w w₁ w₂ p p₁ p₂ m m₁ m₂ : List ℕ) (x₁ x₂
       let t = ap (λ r. r .state) z in (
         a .state ∙ ap₂ (movedOn w) (ap (λ (v : WalkState). v .coming) t) (ap (λ (v : WalkState). v .depth) t) ∙ sym (b .state),
         ap (λ (v : WalkState). v .path) t,
-        same-output (event-told d p (a .step .answer) (a .named) ∙ ap (toldEvent d) (ap (λ r. nextOf (r .answer)) z) ∙ sym (event-told d p (b .step .answer) (b .named))) (a .written) (b .written),
+        same-output (event-told d p (a .step .answer) (a .stepped .named) ∙ ap (toldEvent d) (ap (λ r. nextOf (r .answer)) z) ∙ sym (event-told d p (b .step .answer) (b .stepped .named))) (a .written) (b .written),
       )
