@@ -4,14 +4,17 @@
  *
  * THE STORE is four lent places: `records` (8 words a record), `children` (one word a child place), `text` (bytes) and `used`, eight counts.
  * All zeros is the empty store; what is lent may be of any length (a store uses at most 8,192 records, 16,384 child places and 65,536
- * bytes of it), must not overlap, and must be NULL for no length only. No call reads or writes anything else, none allocates, and none
- * keeps an address. The caller never writes to these places: what the calls below leave there is all that they ask of it.
+ * bytes of it), and must be NULL for no length only. No call reads or writes anything else, none allocates, and none keeps
+ * an address. The caller never writes to these places: what the calls below leave there is all that they ask of it.
+ *
+ * PLACES MUST NOT OVERLAP: one that a call may write (a pointer that is not to const) has no byte in common with any other place that the same
+ * call takes, be it the store's or not: `path` and `other`, `left` and `right`, `operands` and `words`, `walk` and `words` are places of their own.
  *
  * A PATH is the number of a root that is a node, `depth` child indexes and a place of 64 of them; what lies past `depth` is not read.
  *
  * EVERY CALL RETURNS AN OUTCOME, a number below, and writes what it answers into `words`, a place of eight. Words that an answer does not have are
- * left as they were. A refused call (outcome over 100) changes no byte of the store, the path, or a lent state; of `words` it writes nothing, but that a
- * refused sheet names its event there. Any argument is taken: what does not fit is refused, by the first number that applies.
+ * left as they were. A refused call (outcome over 100) changes no byte of the store, a path, a lent state, or `words`; but a refused sheet keeps the
+ * events before the refused one, and names that one in words[0]. Any argument is taken: what does not fit is refused, by the first number that applies.
  *
  * Every contract below is proved (crates/cursor_ffi, crates/notes_tree_ffi): docs/INTERFACE.md says where each stands.
  */
@@ -40,7 +43,7 @@ enum {
     NOTES_ENTER = 10,  /* words: start, end, depth, kind, 1 for a node and 0 for a token */
     NOTES_LEAVE = 11,  /* the same */
     NOTES_CHUNK = 12,  /* words: from, to: the bytes text[from] to text[to - 1] of the store */
-    NOTES_FULL = 13,   /* words: how many events were written; there is no place for another one */
+    NOTES_FULL = 13,   /* words: how many events were written; there is no place for another one. NOTES_NONE of many events has that word, too */
     NOTES_UNKNOWN = 99, /* no edit or question has that code; nothing is read or written */
     NOTES_REFUSED = 100
 };
@@ -103,16 +106,18 @@ size_t notes_query(NOTES_STORE, size_t root, uint32_t path[64], uint32_t other[6
 
 /* A walk of the node at `path`. NOTES_DONE; refused by 4. The path is the walk's from then on. */
 size_t notes_walk_begin(NOTES_STORE, size_t root, size_t with_tokens, const uint32_t path[64], size_t depth, size_t walk[8]);
-/* The next event: NOTES_ENTER, NOTES_LEAVE, or NOTES_NONE for ever. Its element is at the indexes that `path` held before the call. */
+/* The next event: NOTES_ENTER, NOTES_LEAVE, or NOTES_NONE for ever. Its element is at the indexes that `path` held before the call. Refused by 4 where
+ * they name no element, or a token in a walk of nodes only. */
 size_t notes_walk_next(NOTES_STORE, size_t walk[8], uint32_t path[64], size_t words[8]);
 /* A coming Enter becomes Leave of that element's parent. NOTES_DONE; refused by 16 before the first event. */
 size_t notes_walk_skip(size_t walk[8]);
 /* As many calls of notes_walk_next as there is place for in `events`, seven words each: 0 Enter or 1 Leave, 0 token or 1 node, kind, depth, the last
- * of its indexes, start, end. words[0]: how many. NOTES_FULL, or NOTES_NONE at the walk's end. */
+ * of its indexes, start, end. NOTES_FULL, or NOTES_NONE at the walk's end; words[0]: how many events there are. Refused by 4 as the first of those calls
+ * would be, with no event written; no later one can be refused. */
 size_t notes_walk_many(NOTES_STORE, size_t walk[8], uint32_t path[64], uint64_t *events, size_t events_len, size_t words[8]);
 
-/* ---- The chunks of a text, start to end of the node at `path`. `state` and `place`, all zeros when new, are of that text. NOTES_CHUNK, or NOTES_NONE
- * for ever. Refused by 4, 5. */
+/* ---- The chunks of a text, start to end of the node at `path`. `state` and `place`, all zeros when new, are of that text. NOTES_CHUNK: what the next
+ * token has of the text, where that token's record keeps it; or NOTES_NONE for ever. Refused by 4, 5. */
 size_t notes_next_chunk(NOTES_STORE, size_t root, const uint32_t path[64], size_t depth, size_t start, size_t end,
                         size_t state[2], uint32_t place[64], size_t words[8]);
 
@@ -131,7 +136,8 @@ NOTES_QUESTION(first_token);
 NOTES_QUESTION(last_token);
 NOTES_QUESTION(next_token);
 NOTES_QUESTION(prev_token);
-/* Where the text of the token at `path` lies: NOTES_CHUNK, of nothing where the token is empty. Refused by 4 where the path names no token. */
+/* Where the text of the token at `path` lies, which is where its record keeps it: NOTES_CHUNK, of nothing where the token is empty. Refused by 4
+ * where the path names no token. */
 size_t notes_token_text(NOTES_STORE, size_t root, const uint32_t path[64], size_t depth, size_t words[8]);
 size_t notes_token_at_offset(NOTES_STORE, size_t root, uint32_t left[64], uint32_t right[64], size_t depth, size_t offset, size_t words[8]);
 size_t notes_child_or_token_at_range(NOTES_STORE, size_t root, uint32_t path[64], size_t depth, size_t start, size_t end, size_t words[8]);

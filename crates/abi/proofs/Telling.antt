@@ -1,22 +1,30 @@
 -- Laws of outcomes, words and codes. Assumes nothing.
 use Prim.Native.Nat.{ℕ, zero, suc, _+_, _≤_}
 use native.Mathlib.Omega.{arith}
-use mathlib.Core.Path.{_≡_, refl}
+use mathlib.Core.Path.{_≡_, refl, sym, ap, _∙_}
 use mathlib.Core.List.{List, [], _∷_}
 use mathlib.Core.Option.{none}
 use mathlib.Core.Bool.{true}
 use lib.ListN.{length, getElem?}
+use lib.Seq.{sets}
 use Rattle.utility_types.specs.Numbers.{refusalNumber}
 use Rattle.utility_types.specs.declared.Refusal.{Refusal}
 use Rattle.utility_types.specs.declared.Refusal.the-variants.{Malformed, BadEvent, BadText, NoSuchElement, OutOfRange, OtherKind, NothingOpen, UnfitCheckpoint, Unfinished, TooLarge, NoRoom, SkipBeforeFirst}
 use Rattle.preorder.specs.declared.state.Coming.the-variants.{Ended}
-use Rattle.abi.specs.Outcomes.{told, Written, chunkTold}
+use Rattle.abi.specs.Outcomes.{Output, told, OutputWritten, SameOutput, chunkTold}
 use Rattle.abi.specs.Codes.{flag}
 use Rattle.abi.specs.WalkWords.{comingIn}
 
 -- an outcome without words
-pub wordless : {n r : ℕ} {m : List ℕ} → r ≡ n → Written (told n []) m m r
+pub wordless : {n r : ℕ} {m : List ℕ} → r ≡ n → OutputWritten (told n []) m m r
 wordless h = record { outcome = h; words = refl }
+
+-- two calls that tell the same, with the same words lent
+pub same-output : {t u : Output} {m m₁ m₂ : List ℕ} {x₁ x₂ : ℕ} → t ≡ u → OutputWritten t m m₁ x₁ → OutputWritten u m m₂ x₂ → SameOutput m₁ m₂ x₁ x₂
+same-output {m = m} e a b = record {
+  outcome = a .outcome ∙ ap (λ (o : Output). o .outcome) e ∙ sym (b .outcome);
+  words = a .words ∙ ap (λ (o : Output). sets m 0 (o .words)) e ∙ sym (b .words);
+}
 
 pub refusal-small : (x : Refusal) → refusalNumber x ≤ 16
 refusal-small Malformed = omega arith
@@ -59,7 +67,7 @@ over (suc zero) h = absurd (let z : ⊥ = omega (arith, h) in z)
 over (suc (suc zero)) h = absurd (let z : ⊥ = omega (arith, h) in z)
 over (suc (suc (suc x))) h = refl
 
-pub chunk-refused : (x from to : ℕ) {r : ℕ} {m : List ℕ} → 2 ≤ x → r ≡ 100 + x → Written (chunkTold x from to) m m r
+pub chunk-refused : (x from to : ℕ) {r : ℕ} {m : List ℕ} → 2 ≤ x → r ≡ 100 + x → OutputWritten (chunkTold x from to) m m r
 chunk-refused zero from to h e = absurd (let z : ⊥ = omega (arith, h) in z)
 chunk-refused (suc zero) from to h e = absurd (let z : ⊥ = omega (arith, h) in z)
 chunk-refused (suc (suc x)) from to h e = wordless e

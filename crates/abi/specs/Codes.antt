@@ -53,8 +53,8 @@ questions m =
     ∷ question.EqualText (operand m 0) (operand m 1) (operand m 2) (operand m 3) (operand m 4) (operand m 5)
     ∷ []
 
-abbrev pub questionOf : ℕ → List ℕ → Option Question
-questionOf code m = getElem? (questions m) code
+abbrev pub codedQuestion : ℕ → List ℕ → Option Question
+codedQuestion code m = getElem? (questions m) code
 
 abbrev pub codedAs : Coded → Option Question
 codedAs (coded.Question q) = some q

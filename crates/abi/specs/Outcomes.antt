@@ -1,12 +1,11 @@
 -- Which outcome and which words each answer is.
 use Prim.Native.Nat.{ℕ, zero, suc, _+_}
 use mathlib.Core.Path.{_≡_}
-use mathlib.Core.List.{List, [], _∷_, _++_}
+use mathlib.Core.List.{List, [], _∷_}
 use mathlib.Core.Bool.{Bool, true, false}
 use lib.Seq.{sets}
 use denote.Ref.{now}
 use Rattle.green.specs.Store.{Lists}
-use Rattle.green.specs.declared.element.Summary.{Summary}
 use Rattle.green.specs.declared.element.Summarized.{Summarized}
 use Rattle.green.specs.declared.element.Summarized.the-variants as summarized
 use Rattle.green.specs.declared.node.ChildAt.{ChildAt}
@@ -35,111 +34,111 @@ use Rattle.sheet.specs.declared.Ended.{Ended}
 use Rattle.sheet.specs.declared.Ended.the-variants as ended
 
 -- what a call returns, and the words that it writes
-pub record Told : Type 0 where
+pub record Output : Type 0 where
   pub outcome : ℕ
   pub words : List ℕ
 
-abbrev pub told : ℕ → List ℕ → Told
+abbrev pub told : ℕ → List ℕ → Output
 told n ws = record { outcome = n; words = ws }
 
--- THE OUTCOMES. A refusal by document 01's number n is 100 + n; 99 says that there is no call or question of that code
-abbrev pub none : ℕ
-none = 0
+-- THE OUTCOMES, as notes_tree.h names them. A refusal by document 01's number n is 100 + n; 99 says that there is no call or question of that code
+abbrev pub noneOutcome : ℕ
+noneOutcome = 0
 
-abbrev pub token : ℕ
-token = 1
+abbrev pub tokenOutcome : ℕ
+tokenOutcome = 1
 
-abbrev pub node : ℕ
-node = 2
+abbrev pub nodeOutcome : ℕ
+nodeOutcome = 2
 
-abbrev pub pair : ℕ
-pair = 3
+abbrev pub pairOutcome : ℕ
+pairOutcome = 3
 
-abbrev pub text : ℕ
-text = 4
+abbrev pub textOutcome : ℕ
+textOutcome = 4
 
-abbrev pub number : ℕ
-number = 5
+abbrev pub numberOutcome : ℕ
+numberOutcome = 5
 
-abbrev pub yes : ℕ
-yes = 6
+abbrev pub yesOutcome : ℕ
+yesOutcome = 6
 
-abbrev pub no : ℕ
-no = 7
+abbrev pub noOutcome : ℕ
+noOutcome = 7
 
-abbrev pub done : ℕ
-done = 8
+abbrev pub doneOutcome : ℕ
+doneOutcome = 8
 
-abbrev pub path : ℕ
-path = 9
+abbrev pub pathOutcome : ℕ
+pathOutcome = 9
 
-abbrev pub entered : ℕ
-entered = 10
+abbrev pub enterOutcome : ℕ
+enterOutcome = 10
 
-abbrev pub left : ℕ
-left = 11
+abbrev pub leaveOutcome : ℕ
+leaveOutcome = 11
 
-abbrev pub chunk : ℕ
-chunk = 12
+abbrev pub chunkOutcome : ℕ
+chunkOutcome = 12
 
-abbrev pub full : ℕ
-full = 13
+abbrev pub fullOutcome : ℕ
+fullOutcome = 13
 
-abbrev pub unknown : ℕ
-unknown = 99
+abbrev pub unknownOutcome : ℕ
+unknownOutcome = 99
 
-abbrev pub refusedBy : Refusal → Told
+abbrev pub refusedBy : Refusal → Output
 refusedBy x = told (100 + refusalNumber x) []
 
 -- an element: a token or a node; start, end, how many indexes of its path lead to it, kind
 abbrev pub elementKind : Bool → ℕ
-elementKind true = node
-elementKind false = token
+elementKind true = nodeOutcome
+elementKind false = tokenOutcome
 
 abbrev pub elementWords : SyntaxElement → List ℕ
 elementWords e = e .start ∷ e .end ∷ e .depth ∷ e .kind .0 ∷ []
 
-abbrev pub elementTold : SyntaxElement → Told
+abbrev pub elementTold : SyntaxElement → Output
 elementTold e = told (elementKind (e .«is_node»)) (elementWords e)
 
-abbrev pub answerTold : Answer → Told
+abbrev pub answerTold : Answer → Output
 answerTold (answer.Element e) = elementTold e
-answerTold answer.None = told none []
+answerTold answer.None = told noneOutcome []
 answerTold (answer.Refused x) = refusedBy x
 
 -- one token, or two, the left one's words first
-abbrev pub atOffsetTold : TokenAtOffset → Told
-atOffsetTold tokens.None = told none []
-atOffsetTold (tokens.Single e) = told token (elementWords e)
-atOffsetTold (tokens.Between e f) = told pair (e .start ∷ e .end ∷ e .depth ∷ e .kind .0 ∷ f .start ∷ f .end ∷ f .depth ∷ f .kind .0 ∷ [])
+abbrev pub atOffsetTold : TokenAtOffset → Output
+atOffsetTold tokens.None = told noneOutcome []
+atOffsetTold (tokens.Single e) = told tokenOutcome (elementWords e)
+atOffsetTold (tokens.Between e f) = told pairOutcome (e .start ∷ e .end ∷ e .depth ∷ e .kind .0 ∷ f .start ∷ f .end ∷ f .depth ∷ f .kind .0 ∷ [])
 
-abbrev pub tokensTold : Tokens → Told
+abbrev pub tokensTold : Tokens → Output
 tokensTold (offset.At t) = atOffsetTold t
 tokensTold (offset.Refused x) = refusedBy x
 
-abbrev pub truthTold : Bool → Told
-truthTold true = told yes []
-truthTold false = told no []
+abbrev pub truthTold : Bool → Output
+truthTold true = told yesOutcome []
+truthTold false = told noOutcome []
 
 -- a reply of the dispatcher: a text is its start and end, a walk that begins is done, a path how many indexes it has
-abbrev pub replyTold : Reply → Told
-replyTold reply.None = told none []
+abbrev pub replyTold : Reply → Output
+replyTold reply.None = told noneOutcome []
 replyTold (reply.Element e) = elementTold e
 replyTold (reply.Tokens t) = atOffsetTold t
-replyTold (reply.Text from to) = told text (from ∷ to ∷ [])
-replyTold (reply.Number n) = told number (n ∷ [])
+replyTold (reply.Text from to) = told textOutcome (from ∷ to ∷ [])
+replyTold (reply.Number n) = told numberOutcome (n ∷ [])
 replyTold (reply.Truth b) = truthTold b
-replyTold (reply.Walk a) = told done []
-replyTold (reply.Path d) = told path (d ∷ [])
+replyTold (reply.Walk a) = told doneOutcome []
+replyTold (reply.Path d) = told pathOutcome (d ∷ [])
 replyTold (reply.Refused x) = refusedBy x
 
 -- what a call that makes records answers, and the run of a sheet: a refused one says which event it was
-abbrev pub madeTold : Made → Told
-madeTold (made.Number n) = told number (n ∷ [])
+abbrev pub madeTold : Made → Output
+madeTold (made.Number n) = told numberOutcome (n ∷ [])
 madeTold (made.Refused x) = refusedBy x
 
-abbrev pub endedTold : Ended → Told
-endedTold (ended.Root n) = told number (n ∷ [])
+abbrev pub endedTold : Ended → Output
+endedTold (ended.Root n) = told numberOutcome (n ∷ [])
 endedTold (ended.Refused x i) = told (100 + refusalNumber x) (i ∷ [])
 
 -- a walk's event: the element's words, then 1 for a node and 0 for a token
@@ -147,46 +146,52 @@ abbrev pub bit : Bool → ℕ
 bit true = 1
 bit false = 0
 
-abbrev pub eventWords : SyntaxElement → List ℕ
-eventWords e = e .start ∷ e .end ∷ e .depth ∷ e .kind .0 ∷ bit (e .«is_node») ∷ []
+abbrev pub stepWords : SyntaxElement → List ℕ
+stepWords e = e .start ∷ e .end ∷ e .depth ∷ e .kind .0 ∷ bit (e .«is_node») ∷ []
 
-abbrev pub eventTold : walk.Answer → Told
-eventTold (event.Event (Enter e)) = told entered (eventWords e)
-eventTold (event.Event (Leave e)) = told left (eventWords e)
-eventTold event.Ended = told none []
+abbrev pub eventTold : walk.Answer → Output
+eventTold (event.Event (Enter e)) = told enterOutcome (stepWords e)
+eventTold (event.Event (Leave e)) = told leaveOutcome (stepWords e)
+eventTold event.Ended = told noneOutcome []
 eventTold (event.Refused x) = refusedBy x
 
 -- a walk that begins or is skipped on
-abbrev pub movedTold : Moved → Told
-movedTold (moved.To a) = told done []
+abbrev pub movedTold : Moved → Output
+movedTold (moved.To a) = told doneOutcome []
 movedTold (moved.Refused x) = refusedBy x
 
--- many events: why no more came, and how many did
-abbrev pub stopOutcome : Stop → ℕ
-stopOutcome stop.Full = full
-stopOutcome stop.Over = none
-stopOutcome (stop.Refused x) = 100 + refusalNumber x
+-- many events: why no more came, and how many did. Only the first event can be refused (`Stops` in preorder_many), so that a refused call
+-- has no events to count, and writes no word
+abbrev pub givenTold : Stop → ℕ → Output
+givenTold stop.Full n = told fullOutcome (n ∷ [])
+givenTold stop.Over n = told noneOutcome (n ∷ [])
+givenTold (stop.Refused x) n = refusedBy x
 
 -- a chunk's outcome is 0, the end's 1, else a refusal's number; where the chunk starts and ends in the store's text
-abbrev pub chunkTold : ℕ → ℕ → ℕ → Told
-chunkTold zero from to = told chunk (from ∷ to ∷ [])
-chunkTold (suc zero) from to = told none []
+abbrev pub chunkTold : ℕ → ℕ → ℕ → Output
+chunkTold zero from to = told chunkOutcome (from ∷ to ∷ [])
+chunkTold (suc zero) from to = told noneOutcome []
 chunkTold (suc (suc o)) from to = told (100 + suc (suc o)) []
 
 -- what a record keeps of its element, and a node's child: its number, and its offset in the node
-abbrev pub summaryTold : Summarized → Told
+abbrev pub summaryTold : Summarized → Output
 summaryTold (summarized.Of s) = told (elementKind (s .«is_node»)) (s .kind .0 ∷ s .len ∷ s .size ∷ s .height ∷ s .children ∷ [])
 summaryTold (summarized.Refused x) = refusedBy x
 
-abbrev pub childTold : ChildAt → Told
-childTold (child.Found c) = told number (c .number ∷ c .offset ∷ [])
+abbrev pub childTold : ChildAt → Output
+childTold (child.Found c) = told numberOutcome (c .number ∷ c .offset ∷ [])
 childTold (child.Refused x) = refusedBy x
 
 -- IT IS TOLD: the outcome r is returned, and of the lent words just those of the answer are written, from the first on
-pub record Written (t : Told) (m m′ : List ℕ) (r : ℕ) : Type 0 where
+pub record OutputWritten (t : Output) (m m′ : List ℕ) (r : ℕ) : Type 0 where
   pub outcome : r ≡ t .outcome
   pub words : m′ ≡ sets m 0 (t .words)
 
 -- the same from what an `ensures` has
-abbrev pub Tells : Lists → Told → ℕ → Type 0
-Tells words t r = Written t (now (words .entry)) (now (words .exit)) r
+abbrev pub Puts : Lists → Output → ℕ → Type 0
+Puts words t r = OutputWritten t (now (words .entry)) (now (words .exit)) r
+
+-- outcome and words of two calls are the same
+pub record SameOutput (m₁ m₂ : List ℕ) (x₁ x₂ : ℕ) : Type 0 where
+  pub outcome : x₁ ≡ x₂
+  pub words : m₁ ≡ m₂

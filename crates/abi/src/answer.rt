@@ -1,11 +1,14 @@
 // Answers as an outcome, which is returned, and words in a lent place. Words that an answer does not have are left as they were.
+//
+// For the crates above. Each function takes any answer, but `put_chunk`: it asks for a chunk step's outcome as a number below 2^32,
+// which `next_part` ensures.
 
 ghost use mathlib.Core.Path.{_≡_};
 ghost use mathlib.Core.List.{[], _∷_};
 ghost use Prim.Native.Nat.{_+_, _^_, _<_};
 ghost use Rattle.utility_types.specs.Numbers.{refusalNumber};
 ghost use Rattle.utility_types.specs.declared.TokenAtOffset.the-variants.{Between};
-ghost use Rattle.abi.specs.Outcomes.{told, elementKind, elementTold, eventWords, bit as bitOf, atOffsetTold, answerTold, tokensTold, truthTold, replyTold, madeTold, endedTold, eventTold, movedTold, stopOutcome, chunkTold, summaryTold, childTold, Tells};
+ghost use Rattle.abi.specs.Outcomes.{told, elementKind, elementTold, stepWords, bit as bitOf, atOffsetTold, answerTold, tokensTold, truthTold, replyTold, madeTold, endedTold, eventTold, movedTold, givenTold, chunkTold, summaryTold, childTold, Puts};
 use crate::Words;
 use cursor::position::Answer;
 use cursor_range::offset::Tokens;
@@ -46,7 +49,7 @@ pub fn bit(b: bool) -> usize
 }
 
 fn put_element(words: &mut Words, e: SyntaxElement) -> usize
-    ensures { λ r. ⌜ Tells words (elementTold e) r ⌝ }
+    ensures { λ r. ⌜ Puts words (elementTold e) r ⌝ }
 {
     let kind = e.kind;
     words[0] = e.start;
@@ -57,7 +60,7 @@ fn put_element(words: &mut Words, e: SyntaxElement) -> usize
 }
 
 pub fn put_answer(words: &mut Words, answer: Answer) -> usize
-    ensures { λ r. ⌜ Tells words (answerTold answer) r ⌝ }
+    ensures { λ r. ⌜ Puts words (answerTold answer) r ⌝ }
 {
     match answer {
         Answer::Element(e) => put_element(words, e),
@@ -67,7 +70,7 @@ pub fn put_answer(words: &mut Words, answer: Answer) -> usize
 }
 
 fn put_pair(words: &mut Words, e: SyntaxElement, f: SyntaxElement) -> usize
-    ensures { λ r. ⌜ Tells words (atOffsetTold (Between e f)) r ⌝ }
+    ensures { λ r. ⌜ Puts words (atOffsetTold (Between e f)) r ⌝ }
 {
     put_element(words, e);
     let kind = f.kind;
@@ -79,7 +82,7 @@ fn put_pair(words: &mut Words, e: SyntaxElement, f: SyntaxElement) -> usize
 }
 
 fn put_at_offset(words: &mut Words, tokens: TokenAtOffset) -> usize
-    ensures { λ r. ⌜ Tells words (atOffsetTold tokens) r ⌝ }
+    ensures { λ r. ⌜ Puts words (atOffsetTold tokens) r ⌝ }
 {
     match tokens {
         TokenAtOffset::None => 0,
@@ -92,7 +95,7 @@ fn put_at_offset(words: &mut Words, tokens: TokenAtOffset) -> usize
 }
 
 pub fn put_tokens(words: &mut Words, tokens: Tokens) -> usize
-    ensures { λ r. ⌜ Tells words (tokensTold tokens) r ⌝ }
+    ensures { λ r. ⌜ Puts words (tokensTold tokens) r ⌝ }
 {
     match tokens {
         Tokens::At(found) => put_at_offset(words, found),
@@ -101,7 +104,7 @@ pub fn put_tokens(words: &mut Words, tokens: Tokens) -> usize
 }
 
 fn put_two(words: &mut Words, outcome: usize, a: usize, b: usize) -> usize
-    ensures { λ r. ⌜ Tells words (told outcome (a ∷ b ∷ [])) r ⌝ }
+    ensures { λ r. ⌜ Puts words (told outcome (a ∷ b ∷ [])) r ⌝ }
 {
     words[0] = a;
     words[1] = b;
@@ -109,7 +112,7 @@ fn put_two(words: &mut Words, outcome: usize, a: usize, b: usize) -> usize
 }
 
 fn put_one(words: &mut Words, outcome: usize, a: usize) -> usize
-    ensures { λ r. ⌜ Tells words (told outcome (a ∷ [])) r ⌝ }
+    ensures { λ r. ⌜ Puts words (told outcome (a ∷ [])) r ⌝ }
 {
     words[0] = a;
     outcome
@@ -117,13 +120,13 @@ fn put_one(words: &mut Words, outcome: usize, a: usize) -> usize
 
 // A truth has no words.
 fn put_truth(_words: &mut Words, b: bool) -> usize
-    ensures { λ r. ⌜ Tells «_words» (truthTold b) r ⌝ }
+    ensures { λ r. ⌜ Puts «_words» (truthTold b) r ⌝ }
 {
     if b { 6 } else { 7 }
 }
 
 pub fn put_reply(words: &mut Words, reply: Reply) -> usize
-    ensures { λ r. ⌜ Tells words (replyTold reply) r ⌝ }
+    ensures { λ r. ⌜ Puts words (replyTold reply) r ⌝ }
 {
     match reply {
         Reply::None => 0,
@@ -139,7 +142,7 @@ pub fn put_reply(words: &mut Words, reply: Reply) -> usize
 }
 
 pub fn put_made(words: &mut Words, made: Made) -> usize
-    ensures { λ r. ⌜ Tells words (madeTold made) r ⌝ }
+    ensures { λ r. ⌜ Puts words (madeTold made) r ⌝ }
 {
     match made {
         Made::Number(n) => put_one(words, 5, n),
@@ -148,7 +151,7 @@ pub fn put_made(words: &mut Words, made: Made) -> usize
 }
 
 pub fn put_ended(words: &mut Words, ended: Ended) -> usize
-    ensures { λ r. ⌜ Tells words (endedTold ended) r ⌝ }
+    ensures { λ r. ⌜ Puts words (endedTold ended) r ⌝ }
 {
     match ended {
         Ended::Root(n) => put_one(words, 5, n),
@@ -157,7 +160,7 @@ pub fn put_ended(words: &mut Words, ended: Ended) -> usize
 }
 
 fn put_event(words: &mut Words, outcome: usize, e: SyntaxElement) -> usize
-    ensures { λ r. ⌜ Tells words (told outcome (eventWords e)) r ⌝ }
+    ensures { λ r. ⌜ Puts words (told outcome (stepWords e)) r ⌝ }
 {
     put_element(words, e);
     words[4] = bit(e.is_node);
@@ -165,7 +168,7 @@ fn put_event(words: &mut Words, outcome: usize, e: SyntaxElement) -> usize
 }
 
 pub fn put_walk(words: &mut Words, answer: WalkAnswer) -> usize
-    ensures { λ r. ⌜ Tells words (eventTold answer) r ⌝ }
+    ensures { λ r. ⌜ Puts words (eventTold answer) r ⌝ }
 {
     match answer {
         WalkAnswer::Event(event) => match event {
@@ -187,27 +190,21 @@ pub fn moved(moved: Moved) -> usize
     }
 }
 
-fn stop_outcome(stop: Stop) -> usize
-    ensures { λ r. ⌜ r ≡ stopOutcome stop ⌝ }
+// Why no more events came, and how many did; a refusal has no words.
+pub fn put_given(words: &mut Words, stop: Stop, count: usize) -> usize
+    ensures { λ r. ⌜ Puts words (givenTold stop count) r ⌝ }
 {
     match stop {
-        Stop::Full => 13,
-        Stop::Over => 0,
+        Stop::Full => put_one(words, 13, count),
+        Stop::Over => put_one(words, 0, count),
         Stop::Refused(why) => refused(why),
     }
-}
-
-// Why no more events came, and how many did.
-pub fn put_given(words: &mut Words, stop: Stop, count: usize) -> usize
-    ensures { λ r. ⌜ Tells words (told (stopOutcome stop) (count ∷ [])) r ⌝ }
-{
-    put_one(words, stop_outcome(stop), count)
 }
 
 // What a chunk step answered, and where the chunk lies in the store's text.
 pub fn put_chunk(words: &mut Words, outcome: usize, from: usize, to: usize) -> usize
     requires { ⌜ outcome < 2 ^ 32 ⌝ }
-    ensures { λ r. ⌜ Tells words (chunkTold outcome from to) r ⌝ }
+    ensures { λ r. ⌜ Puts words (chunkTold outcome from to) r ⌝ }
 {
     match outcome {
         0 => put_two(words, 12, from, to),
@@ -217,7 +214,7 @@ pub fn put_chunk(words: &mut Words, outcome: usize, from: usize, to: usize) -> u
 }
 
 pub fn put_summary(words: &mut Words, of: Summarized) -> usize
-    ensures { λ r. ⌜ Tells words (summaryTold of) r ⌝ }
+    ensures { λ r. ⌜ Puts words (summaryTold of) r ⌝ }
 {
     match of {
         Summarized::Of(it) => {
@@ -234,7 +231,7 @@ pub fn put_summary(words: &mut Words, of: Summarized) -> usize
 }
 
 pub fn put_child(words: &mut Words, of: ChildAt) -> usize
-    ensures { λ r. ⌜ Tells words (childTold of) r ⌝ }
+    ensures { λ r. ⌜ Puts words (childTold of) r ⌝ }
 {
     match of {
         ChildAt::Found(child) => put_two(words, 5, child.number, child.offset),

@@ -1,7 +1,7 @@
 // A question from its code and operands. The codes count the questions in the order of `questions` in specs/Codes.
 
 ghost use mathlib.Core.Path.{_≡_};
-ghost use Rattle.abi.specs.Codes.{character as characterOf, questionOf, codedAs};
+ghost use Rattle.abi.specs.Codes.{character as characterOf, codedQuestion, codedAs};
 use crate::Words;
 use query::question::Question;
 
@@ -19,7 +19,7 @@ fn character(x: usize) -> u32
 
 // The question of a code.
 pub fn of_code(code: usize, m: &Words) -> Coded
-    ensures { λ r. ⌜ codedAs r ≡ questionOf code (now (m .entry)) ⌝ }
+    ensures { λ r. ⌜ codedAs r ≡ codedQuestion code (now (m .entry)) ⌝ }
 {
     match code {
         0 => Coded::Question(Question::Here),

@@ -1,1 +1,2 @@
 pub mod TokenText
+pub mod Alike

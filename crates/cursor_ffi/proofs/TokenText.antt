@@ -1,14 +1,15 @@
 -- Where a token's text lies. Assumes nothing.
-use Prim.Native.Nat.{ℕ, suc, _+_, _≤_}
+use Prim.Native.Nat.{ℕ, suc, _+_, _-_, _≤_}
 use native.Mathlib.Omega.{arith}
 use mathlib.Core.Path.{_≡_, refl, sym, ap, subst, _∙_}
 use mathlib.Core.List.{List, [], _∷_}
 use mathlib.Core.Bool.{true, false}
 use mathlib.Core.Option.{Option, none, some, bind, Option·none-ne-some, Option·some-injective}
-use lib.ListN.{length, take, drop}
+use lib.ListN.{length, take, drop, length-take, length-drop}
 use lib.Seq.{split-at}
-use Rattle.definitions.specs.Tree.{Tree, isNode}
-use Rattle.definitions.specs.Entry.{Entry, absent, treeAt, entryAt, childPlaces, textBytes, ownBytes}
+use Rattle.definitions.specs.Tree.{Tree, isNode, text, textLen}
+use Rattle.definitions.specs.Entry.{Entry, absent, treeAt, entryAt, numberAt, childPlaces, textBytes, ownBytes}
+use Rattle.definitions.proofs.Laws.{text-length}
 use Rattle.definitions.proofs.Entries.{textBytes-append}
 use Rattle.definitions.specs.Element.{Element}
 use Rattle.green.specs.Store.{Store, entries}
@@ -19,23 +20,23 @@ use Rattle.cursor.specs.declared.position.Cursor.{Cursor}
 use Rattle.cursor.specs.Position.{Placed}
 use Rattle.cursor.proofs.Named.{Names}
 use Rattle.utility_types.specs.declared.Refusal.the-variants.{NoSuchElement}
-use Rattle.abi.specs.Outcomes.{told, chunk, refusedBy, Written}
+use Rattle.abi.specs.Outcomes.{told, chunkOutcome, refusedBy, OutputWritten}
 use Rattle.cursor_ffi.specs.Exports.{tokenOf, namedToken, TextLies, TokenText}
 
 by-name : {es : List Entry} {r depth : ℕ} {l : List ℕ} {o : Option Element} → Names es r depth l o → namedToken es r depth l ≡ bind o tokenOf
 unfolding namedToken
 by-name n = ap (λ o. bind o tokenOf) (sym (n .is))
 
-no-text : {o : Option Tree} → o ≡ none → {es : List Entry} {b m : List ℕ} {x : ℕ} → x ≡ refusedBy NoSuchElement .outcome → TokenText es b o m m x
+no-text : {o : Option Tree} → o ≡ none → {es : List Entry} {b : List ℕ} {root : ℕ} {p m : List ℕ} {x : ℕ} → x ≡ refusedBy NoSuchElement .outcome → TokenText es b root p o m m x
 no-text h e = record { token = λ t g. absurd (Option·none-ne-some t (sym h ∙ g)); no-token = λ g. record { outcome = e; words = refl } }
 
 -- a path names nothing, a node, or a token
-pub nothing-there : {es : List Entry} {r depth : ℕ} {l : List ℕ} → Names es r depth l none → {b m : List ℕ} {x : ℕ} → x ≡ refusedBy NoSuchElement .outcome → TokenText es b (namedToken es r depth l) m m x
+pub nothing-there : {es : List Entry} {r depth : ℕ} {l : List ℕ} → Names es r depth l none → {b m : List ℕ} {x : ℕ} → x ≡ refusedBy NoSuchElement .outcome → TokenText es b r (take depth l) (namedToken es r depth l) m m x
 unfolding bind
 nothing-there n = no-text (by-name n)
 
 module _ {es : List Entry} {r depth : ℕ} {l : List ℕ} {e : Element} (n : Names es r depth l (some e)) where
-  pub node-there : isNode (e .tree) ≡ true → {b m : List ℕ} {x : ℕ} → x ≡ refusedBy NoSuchElement .outcome → TokenText es b (namedToken es r depth l) m m x
+  pub node-there : isNode (e .tree) ≡ true → {b m : List ℕ} {x : ℕ} → x ≡ refusedBy NoSuchElement .outcome → TokenText es b r (take depth l) (namedToken es r depth l) m m x
   unfolding tokenOf bind
   node-there h = no-text (by-name n ∙ rw h refl)
 
@@ -44,9 +45,9 @@ module _ {es : List Entry} {r depth : ℕ} {l : List ℕ} {e : Element} (n : Nam
     unfolding tokenOf bind
     token-is = by-name n ∙ rw h refl
 
-    pub token-there : {b m m′ : List ℕ} {x : ℕ} → TextLies es b (e .tree) m m′ x → TokenText es b (namedToken es r depth l) m m′ x
+    pub token-there : {b m m′ : List ℕ} {x : ℕ} → TextLies es b r (take depth l) (e .tree) m m′ x → TokenText es b r (take depth l) (namedToken es r depth l) m m′ x
     token-there {b} {m} {m′} {x} t = record {
-      token = λ u g. subst (λ v. TextLies es b v m m′ x) (Option·some-injective _ _ (sym token-is ∙ g)) t;
+      token = λ u g. subst (λ v. TextLies es b r (take depth l) v m m′ x) (Option·some-injective _ _ (sym token-is ∙ g)) t;
       no-token = λ g. absurd (Option·none-ne-some _ (sym g ∙ token-is));
     }
 
@@ -64,13 +65,19 @@ module _ {s : Store} {c : Cursor} (p : Placed s c) (h : isNode (treeAt (entries 
   pub text-within : f + k ≤ length (s .text)
   text-within = omega (arith, token-bound s (c .number) (p .known) h, first, count)
 
-  pub text-lies : {m m′ : List ℕ} {x : ℕ} → Written (told chunk (f ∷ (f + k) ∷ [])) m m′ x → TextLies (entries s) (s .text) (treeAt (entries s) (c .number)) m m′ x
-  text-lies w = record {
-    from = f;
-    to = f + k;
-    ordered = omega arith;
-    used = text-used;
-    within = text-within;
-    bytes = token-part s (c .number) (p .known) h f k first count;
-    written = w;
+  text-here : take (f + k - f) (drop f (s .text)) ≡ text (treeAt (entries s) (c .number))
+  text-here = token-part s (c .number) (p .known) h f k first count
+
+  all : k ≡ textLen (treeAt (entries s) (c .number))
+  all = omega (arith, ap length text-here, text-length (treeAt (entries s) (c .number)), length-take (f + k - f) (drop f (s .text)), length-drop f (s .text), text-within)
+
+  pub text-lies : {root : ℕ} {q : List ℕ} → numberAt (entries s) root q ≡ some (c .number) → {m m′ : List ℕ} {x : ℕ} → OutputWritten (told chunkOutcome (f ∷ (f + k) ∷ [])) m m′ x
+      → TextLies (entries s) (s .text) root q (treeAt (entries s) (c .number)) m m′ x
+  text-lies r w = record {
+    number = c .number;
+    recorded = r;
+    used = rw (← first, ← all) text-used;
+    within = rw (← first, ← all) text-within;
+    bytes = rw (← first, ← all) (let z : f + k - f ≡ k = omega arith in subst (λ j. take j (drop f (s .text)) ≡ text (treeAt (entries s) (c .number))) z text-here);
+    written = rw (← first, ← all) w;
   }

@@ -20,16 +20,16 @@ use Rattle.preorder.specs.Walks as walks
 use Rattle.syntax_text_chunks.specs.Chunks.{ChunkStepped}
 use Rattle.notes_tree.specs.Demand3.{WalkDone, ChunkDone}
 use Rattle.notes_tree.proofs.Demand3.{demand3}
-use Rattle.notes_tree_ffi.specs.Goes.{Reached, GoesOn, WalkNextDone, WalkSkipDone, ChunkStepDone}
+use Rattle.notes_tree_ffi.specs.Goes.{HasHistory, HistoryGoesOn, WalkNextDone, WalkSkipDone, ChunkStepDone}
 
-pub reached-valid : {s : Store} → Reached s → Valid s
+pub reached-valid : {s : Store} → HasHistory s → Valid s
 reached-valid h = demand3 (h .history) .valid
 
 pub run-on : {s s′ : Store} {sheet text yields′ : List ℕ} {r : Ended} (yields : List ℕ) → length yields ≡ 4096
-    → RunDone (both s s′) sheet text r → YieldsDone s (both yields yields′) sheet text → GoesOn s s′ (Call.write (Write.run sheet text r yields′))
+    → RunDone (both s s′) sheet text r → YieldsDone s (both yields yields′) sheet text → HistoryGoesOn s s′ (Call.write (Write.run sheet text r yields′))
 run-on yields f d y = record { history = λ calls h. History.call h (Performed.write (Wrote.run yields f d y)) }
 
-pub edit-on : (e : Edit) {s s′ : Store} {r : Made} → Done s s′ (makes e (limits s) (entries s)) r → GoesOn s s′ (Call.write (Write.edit e r))
+pub edit-on : (e : Edit) {s s′ : Store} {r : Made} → Done s s′ (makes e (limits s) (entries s)) r → HistoryGoesOn s s′ (Call.write (Write.edit e r))
 edit-on e d = record { history = λ calls h. History.call h (Performed.write (Wrote.edit {e = e} d)) }
 
 -- calls that carry on a walk

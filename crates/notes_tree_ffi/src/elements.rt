@@ -3,7 +3,7 @@
 ghost use Rattle.green.specs.Store.{here, entered};
 ghost use Rattle.green.specs.Valid.{Valid};
 ghost use Rattle.sheet_run.specs.RunDone.{list};
-ghost use Rattle.notes_tree_ffi.specs.Exports.{ElementTold, ChildTold};
+ghost use Rattle.notes_tree_ffi.specs.Exports.{ElementExported, ChildExported};
 use abi::Words;
 use abi::answer;
 use green::Counts;
@@ -21,7 +21,7 @@ pub extern "C" fn notes_element(
     words: &mut Words,
 ) -> usize
     requires { ⌜ Valid (here records children text used) ⌝ }
-    ensures { λ r. ⌜ ElementTold (entered records children text used) number (list words) r ⌝ }
+    ensures { λ r. ⌜ ElementExported (entered records children text used) number (list words) r ⌝ }
 {
     let of = element::summarize(records, children, text, used, number);
     answer::put_summary(words, of)
@@ -39,7 +39,7 @@ pub extern "C" fn notes_child(
     words: &mut Words,
 ) -> usize
     requires { ⌜ Valid (here records children text used) ⌝ }
-    ensures { λ r. ⌜ ChildTold (entered records children text used) number index (list words) r ⌝ }
+    ensures { λ r. ⌜ ChildExported (entered records children text used) number index (list words) r ⌝ }
 {
     let of = node::child_at(records, children, text, used, number, index);
     answer::put_child(words, of)

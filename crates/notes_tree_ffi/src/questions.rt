@@ -3,8 +3,8 @@
 ghost use Rattle.green.specs.Store.{here, entered};
 ghost use Rattle.green.specs.Valid.{Valid};
 ghost use Rattle.sheet_run.specs.RunDone.{list};
-ghost use Rattle.abi.specs.Codes.{questionOf};
-ghost use Rattle.notes_tree_ffi.specs.Exports.{QueryTold};
+ghost use Rattle.abi.specs.Codes.{codedQuestion};
+ghost use Rattle.notes_tree_ffi.specs.Exports.{QueryExported};
 use abi::Words;
 use abi::answer;
 use abi::question;
@@ -26,7 +26,7 @@ pub extern "C" fn notes_query(
     words: &mut Words,
 ) -> usize
     requires { ⌜ Valid (here records children text used) ⌝ }
-    ensures { λ r. ⌜ QueryTold (entered records children text used) root depth (list path) (list other) (questionOf code (now (operands .entry))) (list words) r ⌝ }
+    ensures { λ r. ⌜ QueryExported (entered records children text used) root depth (list path) (list other) (codedQuestion code (now (operands .entry))) (list words) r ⌝ }
 {
     let coded = question::of_code(code, operands);
     let Coded::Question(asked) = coded else {

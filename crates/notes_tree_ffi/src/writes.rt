@@ -2,8 +2,8 @@
 
 ghost use Rattle.green.specs.Store.{here, stores};
 ghost use Rattle.sheet_run.specs.RunDone.{list};
-ghost use Rattle.notes_tree_ffi.specs.Goes.{Reached};
-ghost use Rattle.notes_tree_ffi.specs.Exports.{RunTold, editOf, EditTold};
+ghost use Rattle.notes_tree_ffi.specs.Goes.{HasHistory};
+ghost use Rattle.notes_tree_ffi.specs.Exports.{RunExported, editOf, EditExported};
 use abi::Words;
 use abi::answer;
 use green::Counts;
@@ -23,8 +23,8 @@ pub extern "C" fn notes_run(
     source: &[u8],
     words: &mut Words,
 ) -> usize
-    requires { ⌜ Reached (here records children text used) ⌝ }
-    ensures { λ r. ⌜ RunTold (stores records children text used) (list yields) (now (sheet .entry)) (now (source .entry)) (list words) r ⌝ }
+    requires { ⌜ HasHistory (here records children text used) ⌝ }
+    ensures { λ r. ⌜ RunExported (stores records children text used) (list yields) (now (sheet .entry)) (now (source .entry)) (list words) r ⌝ }
 {
     show(yields);
     let ended = sheet_run::run_alone(records, children, text, used, yields, sheet, source);
@@ -46,8 +46,8 @@ pub extern "C" fn notes_edit(
     path: &[u32; 64],
     words: &mut Words,
 ) -> usize
-    requires { ⌜ Reached (here records children text used) ⌝ }
-    ensures { λ r. ⌜ EditTold (stores records children text used) (editOf code number from to (now (news .entry)) (now (path .entry))) (list words) r ⌝ }
+    requires { ⌜ HasHistory (here records children text used) ⌝ }
+    ensures { λ r. ⌜ EditExported (stores records children text used) (editOf code number from to (now (news .entry)) (now (path .entry))) (list words) r ⌝ }
 {
     match code {
         0 => {

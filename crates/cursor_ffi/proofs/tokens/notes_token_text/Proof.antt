@@ -26,7 +26,7 @@ add-to : tie.Need-add-to
 add-to c = omega (arith, text-within (located-facts (c .before .before .before .before .before .before .before .before .before .locate .ensures) (c .before .before .before .before .before .before .before .found .given .1) .placed) (leaf (located-facts (c .before .before .before .before .before .before .before .before .before .locate .ensures) (c .before .before .before .before .before .before .before .found .given .1) .placed) (c .before .before .before .before .node-or-token .ensures) (c .before .before .enum-told2 .given .1)) (c .before .first-of .ensures) (c .count-of .ensures), (c .before .before .before .before .before .before .before .before .before .before .before .before .before .before .good .1 .1 .0))
 
 returns-3 : tie.Need-returns-3
-returns-3 c = token-there (located-named (c .before .before .before .before .before .before .before .before .before .before .before .locate .ensures) (c .before .before .before .before .before .before .before .before .before .found .given .1)) (leaf (located-facts (c .before .before .before .before .before .before .before .before .before .before .before .locate .ensures) (c .before .before .before .before .before .before .before .before .before .found .given .1) .placed) (c .before .before .before .before .before .before .node-or-token .ensures) (c .before .before .before .before .enum-told2 .given .1)) (text-lies (located-facts (c .before .before .before .before .before .before .before .before .before .before .before .locate .ensures) (c .before .before .before .before .before .before .before .before .before .found .given .1) .placed) (leaf (located-facts (c .before .before .before .before .before .before .before .before .before .before .before .locate .ensures) (c .before .before .before .before .before .before .before .before .before .found .given .1) .placed) (c .before .before .before .before .before .before .node-or-token .ensures) (c .before .before .before .before .enum-told2 .given .1)) (c .before .before .before .first-of .ensures) (c .before .before .count-of .ensures) (c .put-chunk .ensures))
+returns-3 c = token-there (located-named (c .before .before .before .before .before .before .before .before .before .before .before .locate .ensures) (c .before .before .before .before .before .before .before .before .before .found .given .1)) (leaf (located-facts (c .before .before .before .before .before .before .before .before .before .before .before .locate .ensures) (c .before .before .before .before .before .before .before .before .before .found .given .1) .placed) (c .before .before .before .before .before .before .node-or-token .ensures) (c .before .before .before .before .enum-told2 .given .1)) (text-lies (located-facts (c .before .before .before .before .before .before .before .before .before .before .before .locate .ensures) (c .before .before .before .before .before .before .before .before .before .found .given .1) .placed) (leaf (located-facts (c .before .before .before .before .before .before .before .before .before .before .before .locate .ensures) (c .before .before .before .before .before .before .before .before .before .found .given .1) .placed) (c .before .before .before .before .before .before .node-or-token .ensures) (c .before .before .before .before .enum-told2 .given .1)) (c .before .before .before .first-of .ensures) (c .before .before .count-of .ensures) (located-facts (c .before .before .before .before .before .before .before .before .before .before .before .locate .ensures) (c .before .before .before .before .before .before .before .before .before .found .given .1) .number) (c .put-chunk .ensures))
 
 pub notes-token-text-spec : {M : Type 1} → statement M
 notes-token-text-spec =

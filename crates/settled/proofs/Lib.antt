@@ -1,0 +1,5 @@
+pub mod Storing
+pub mod Walking
+pub mod Reading
+pub mod Settled
+pub mod Refused
