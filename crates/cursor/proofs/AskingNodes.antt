@@ -11,19 +11,22 @@ use Rattle.definitions.specs.Entry.{Entry, treeAt}
 use Rattle.definitions.specs.Element.{Element}
 use Rattle.definitions.specs.Query as query
 use Rattle.definitions.specs.Query.{Question, ask, ofNode}
+use Rattle.utility_types.specs.declared.Refusal.{Refusal}
+use Rattle.utility_types.specs.declared.Refusal.the-variants.{NoSuchElement}
 use Rattle.green.specs.Store.{Store, entries}
 use Rattle.cursor.specs.declared.position.Cursor.{Cursor}
+use Rattle.cursor.specs.declared.position.Answer.the-variants as answer
 use Rattle.cursor.specs.declared.path.Remember.{Remember}
 use Rattle.cursor.specs.declared.path.Place.{Place}
 use Rattle.cursor.specs.declared.path.Located.{Located}
 use Rattle.cursor.specs.declared.path.Located.the-variants as located
 use Rattle.cursor.specs.declared.path.LocatedNode.{LocatedNode}
-use Rattle.cursor.specs.declared.path.LocatedNode.the-variants.{At, Nowhere}
+use Rattle.cursor.specs.declared.path.LocatedNode.the-variants.{At, Refused}
 use Rattle.cursor.specs.Position.{at, Inner}
 use Rattle.cursor.specs.Path.{named, namedNode, nodeLocatedAt, NodeFacts, Leads, LeadsToNode}
-use Rattle.cursor.specs.Answers.{answerAtPath}
+use Rattle.cursor.specs.Answers.{Tells, answerAtPath}
 use Rattle.cursor.proofs.Named.{Names}
-use Rattle.cursor.proofs.Asking.{answer-none, answer-of, nowhere-named, located-named, located-facts}
+use Rattle.cursor.proofs.Asking.{answer-none, answer-of, refused-by, refused-named, refused-4, located-named, located-facts}
 
 pub ofNode-node : (e : Element) → isNode (e .tree) ≡ true → (a : Result query.Answer) → ofNode e a ≡ a
 unfolding ofNode
@@ -35,14 +38,14 @@ ofNode-token e t a = rw t
 
 -- locate_node, by its tests
 module _ {s : Store} {remember : Remember} {r depth : ℕ} {l : List ℕ} {x : Located} (d : Leads s remember r depth l x) where
-  pub nowhere-no-node : x ≡ located.Nowhere → LeadsToNode s r depth l Nowhere
+  pub refused-no-node : {why : Refusal} → x ≡ located.Refused why → LeadsToNode s r depth l (Refused why)
   unfolding namedNode bind
-  nowhere-no-node h = record { says = rw (← nowhere-named d h .is) refl; facts = tt }
+  refused-no-node h = record { says = rw (← refused-named d h .is) refl; facts = refused-4 d h }
 
   module _ {p : Place} (h : x ≡ located.At p) where
-    pub token-no-node : isNode (treeAt (entries s) (p .at .number)) ≡ false → LeadsToNode s r depth l Nowhere
+    pub token-no-node : isNode (treeAt (entries s) (p .at .number)) ≡ false → LeadsToNode s r depth l (Refused NoSuchElement)
     unfolding namedNode bind
-    token-no-node t = record { says = rw (← located-named d h .is, t) refl; facts = tt }
+    token-no-node t = record { says = rw (← located-named d h .is, t) refl; facts = refl }
 
     pub node-located : Inner s (p .at) → LeadsToNode s r depth l (At (p .at))
     unfolding namedNode bind
@@ -85,15 +88,23 @@ module _ {s : Store} {r depth : ℕ} {l : List ℕ} {x : LocatedNode} (d : Leads
   abbrev es : List Entry
   es = entries s
 
-  pub no-node-named : x ≡ Nowhere → {P : Type 0} → (Names es r depth l none → P) → ((e : Element) → Names es r depth l (some e) → isNode (e .tree) ≡ false → P) → P
+  pub no-node-4 : {why : Refusal} → x ≡ Refused why → why ≡ NoSuchElement
+  no-node-4 h = rw h at (d .facts)
+
+  pub no-node-named : {why : Refusal} → x ≡ Refused why → {P : Type 0} → (Names es r depth l none → P) → ((e : Element) → Names es r depth l (some e) → isNode (e .tree) ≡ false → P) → P
   unfolding namedNode
   no-node-named h f g =
       no-node-of (named es r depth l) (sym (ap (nodeLocatedAt es depth l) h) ∙ d .says) (λ n. f (record { is = n })) (λ e n. g e (record { is = n }))
 
   -- a question that refuses every token is refused
-  pub no-node-asked : x ≡ Nowhere → (q : Question) → ((e : Element) → Names es r depth l (some e) → isNode (e .tree) ≡ false → ask (treeAt es r) e q ≡ refused 4)
+  pub no-node-asked : {why : Refusal} → x ≡ Refused why → (q : Question) → ((e : Element) → Names es r depth l (some e) → isNode (e .tree) ≡ false → ask (treeAt es r) e q ≡ refused 4)
       → answerAtPath es r depth l q ≡ refused 4
   no-node-asked h q f = no-node-named h (λ n. answer-none n q) (λ e n t. answer-of n q ∙ f e n t)
+
+  -- and by the refusal that locate_node answered
+  pub no-node-told : {why : Refusal} → x ≡ Refused why → (q : Question) → ((e : Element) → Names es r depth l (some e) → isNode (e .tree) ≡ false → ask (treeAt es r) e q ≡ refused 4)
+      → Tells l l (answerAtPath es r depth l q) (answer.Refused why)
+  no-node-told h q f = refused-by (no-node-4 h) (no-node-asked h q f)
 
   module _ {c : Cursor} (h : x ≡ At c) where
     pub node-facts : NodeFacts s r depth l c

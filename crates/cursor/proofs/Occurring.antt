@@ -29,6 +29,7 @@ use Rattle.cursor.specs.declared.whereabouts.Occurrence.{Occurrence}
 use Rattle.cursor.specs.declared.whereabouts.Occurrence.the-variants.{At, Nowhere}
 use Rattle.cursor.specs.declared.whereabouts.Whereabouts.the-variants.{Refused}
 use Rattle.cursor.specs.declared.whereabouts.Whereabouts.the-variants as whereabouts
+use Rattle.utility_types.specs.declared.Refusal.{Refusal}
 use Rattle.utility_types.specs.declared.Refusal.the-variants.{NoSuchElement}
 use Rattle.cursor.specs.Occurs.{OccurrenceFound, Absent, Searched, Occurs, WhereIsAnswer}
 
@@ -156,8 +157,8 @@ module _ {s : Store} (v : Valid s) (n r : ℕ) (l : List ℕ) where
   number-refused h = record { says = unnamed (rw (absent (entries s) n (omega (arith, count-records s v))) refl); kept = refl }
 
   module _ {y : LocatedNode} (d : IsRootNode s r y) where
-    pub root-no-node : y ≡ node-at.Nowhere → WhereIsAnswer (entries s) n r l l (Refused NoSuchElement)
-    root-no-node e = record { says = unnamed (rw (root-refused d e, or-true (isAbsent (entries s) n)) refl); kept = refl }
+    pub root-no-node : {why : Refusal} → y ≡ node-at.Refused why → WhereIsAnswer (entries s) n r l l (Refused why)
+    root-no-node e = rw (root-refused d e .1) (record { says = unnamed (rw (root-refused d e .0, or-true (isAbsent (entries s) n)) refl); kept = refl })
 
     module _ (h : n < getD (s .used) 0 0) {c : Cursor} (e : y ≡ node-at.At c) where
       both-there : (isAbsent (entries s) n || isNoNode (entries s) r) ≡ false

@@ -13,15 +13,17 @@ use Rattle.definitions.specs.Entry.{treeAt, numberAt}
 use Rattle.definitions.specs.Refusal.{isNoNode}
 use Rattle.definitions.specs.Element.{Element, root, along, elementAt}
 use Rattle.definitions.specs.Identity.{Occurrence, occurrence, sameElement}
+use Rattle.utility_types.specs.Numbers.{refusalNumber}
+use Rattle.utility_types.specs.declared.Refusal.{Refusal}
 use Rattle.green.specs.Store.{Store, entries}
 use Rattle.cursor.specs.declared.path.Remember.{Remember}
 use Rattle.cursor.specs.declared.path.Place.{Place}
 use Rattle.cursor.specs.declared.path.Located.{Located}
-use Rattle.cursor.specs.declared.path.Located.the-variants.{At, Nowhere}
+use Rattle.cursor.specs.declared.path.Located.the-variants.{At, Refused}
 use Rattle.cursor.specs.Position.{at}
 use Rattle.cursor.specs.Path.{named, Leads}
 use Rattle.cursor.proofs.Named.{short, root-there, leads-along, root-is-node}
-use Rattle.cursor.proofs.Asking.{located-facts, nowhere-named, located-named}
+use Rattle.cursor.proofs.Asking.{located-facts, refused-named, refused-4, located-named}
 use Rattle.cursor.specs.Same.{sameAsked}
 
 -- what is not named has no occurrence
@@ -37,11 +39,11 @@ module _ (g : ℕ → Element → Result Occurrence) where
   nowhere false false false o (some n) e = refl
 
 module _ {s : Store} {remember : Remember} {r depth : ℕ} {l : List ℕ} {x : Located} (d : Leads s remember r depth l x) where
-  absent : x ≡ Nowhere → cond (ltb 64 depth) (refused 4) (occurrence (entries s) r (take depth l)) ≡ refused 4
+  absent : {why : Refusal} → x ≡ Refused why → cond (ltb 64 depth) (refused 4) (occurrence (entries s) r (take depth l)) ≡ refused 4
   unfolding occurrence elementAt named
   absent h =
       nowhere (λ n e. ok (record { number = n; start = e .start })) (ltb 64 depth) (isNoNode (entries s) r) (isNode (treeAt (entries s) r))
-      (along (take depth l) (root (treeAt (entries s) r))) (numberAt (entries s) r (take depth l)) (nowhere-named d h .is)
+      (along (take depth l) (root (treeAt (entries s) r))) (numberAt (entries s) r (take depth l)) (refused-named d h .is)
 
   module _ {p : Place} (h : x ≡ At p) where
     present : occurrence (entries s) r (take depth l) ≡ ok (record { number = p .at .number; start = p .at .start })
@@ -61,14 +63,14 @@ second-refused k true y e = refl
 second-refused k false y e = rw e refl
 
 module _ {s : Store} {remember : Remember} {r d : ℕ} {l : List ℕ} {x : Located} (f : Leads s remember r d l x) where
-  pub first-nowhere : x ≡ Nowhere → (r′ d′ : ℕ) (l′ : List ℕ) → refused 4 ≡ sameAsked (entries s) r d l r′ d′ l′
+  pub first-absent : {why : Refusal} → x ≡ Refused why → (r′ d′ : ℕ) (l′ : List ℕ) → refused (refusalNumber why) ≡ sameAsked (entries s) r d l r′ d′ l′
   unfolding sameAsked sameElement
-  first-nowhere h r′ d′ l′ = sym (first-refused _ (ltb 64 d) (ltb 64 d′) (occurrence (entries s) r (take d l)) (absent f h))
+  first-absent h r′ d′ l′ = rw (refused-4 f h) (sym (first-refused _ (ltb 64 d) (ltb 64 d′) (occurrence (entries s) r (take d l)) (absent f h)))
 
   module _ {remember′ : Remember} {r′ d′ : ℕ} {l′ : List ℕ} {x′ : Located} (f′ : Leads s remember′ r′ d′ l′ x′) {p : Place} (h : x ≡ At p) where
-    pub second-nowhere : x′ ≡ Nowhere → refused 4 ≡ sameAsked (entries s) r d l r′ d′ l′
+    pub second-absent : {why : Refusal} → x′ ≡ Refused why → refused (refusalNumber why) ≡ sameAsked (entries s) r d l r′ d′ l′
     unfolding sameAsked sameElement andThen
-    second-nowhere h′ = sym (rw (short (located-named f h), present f h) (second-refused _ (ltb 64 d′) (occurrence (entries s) r′ (take d′ l′)) (absent f′ h′)))
+    second-absent h′ = rw (refused-4 f′ h′) (sym (rw (short (located-named f h), present f h) (second-refused _ (ltb 64 d′) (occurrence (entries s) r′ (take d′ l′)) (absent f′ h′))))
 
     module _ {p′ : Place} (h′ : x′ ≡ At p′) where
       compared : ok (eqb (p .at .number) (p′ .at .number) && eqb (p .at .start) (p′ .at .start)) ≡ sameAsked (entries s) r d l r′ d′ l′

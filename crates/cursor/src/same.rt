@@ -40,8 +40,9 @@ pub fn same_element(
         depth,
         Remember::Parent,
     );
-    let Located::At(one) = first else {
-        return Same::Refused(Refusal::NoSuchElement);
+    let one = match first {
+        Located::Refused(why) => return Same::Refused(why),
+        Located::At(place) => place,
     };
     let second = path::locate(
         records,
@@ -53,8 +54,9 @@ pub fn same_element(
         depth2,
         Remember::Parent,
     );
-    let Located::At(other) = second else {
-        return Same::Refused(Refusal::NoSuchElement);
+    let other = match second {
+        Located::Refused(why) => return Same::Refused(why),
+        Located::At(place) => place,
     };
     let a = one.at;
     let b = other.at;

@@ -98,8 +98,9 @@ pub fn where_is(
         return Whereabouts::Refused(Refusal::NoSuchElement);
     }
     let top = path::root_node(records, children, text, used, root);
-    let LocatedNode::At(at) = top else {
-        return Whereabouts::Refused(Refusal::NoSuchElement);
+    let at = match top {
+        LocatedNode::Refused(why) => return Whereabouts::Refused(why),
+        LocatedNode::At(at) => at,
     };
     let found = occurrence_in(records, children, text, used, number, at, path);
     let Occurrence::At(depth) = found else {

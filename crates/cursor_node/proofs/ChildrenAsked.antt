@@ -4,7 +4,6 @@ use mathlib.Core.Path.{_≡_, refl, sym, ap, _∙_}
 use mathlib.Core.List.{List}
 use mathlib.Core.Bool.{Bool}
 use lib.ListN.{take}
-use Rattle.definitions.specs.Prelude.{refused}
 use Rattle.definitions.specs.Tree.{Tree}
 use Rattle.definitions.specs.Entry.{Entry, treeAt}
 use Rattle.definitions.specs.Element.{Element, children}
@@ -12,15 +11,17 @@ use Rattle.definitions.specs.Cursor.{offered, firstChild, lastChild}
 use Rattle.definitions.specs.Query.{ask, ofNode, maybe}
 use Rattle.green.specs.Store.{Store, entries}
 use Rattle.utility_types.specs.declared.Direction.{Direction}
+use Rattle.utility_types.specs.declared.Refusal.{Refusal}
 use Rattle.utility_types.specs.declared.Direction.the-variants.{Next, Prev}
 use Rattle.cursor.specs.declared.position.Cursor.{Cursor}
+use Rattle.cursor.specs.declared.position.Answer.the-variants as answer
 use Rattle.cursor.specs.declared.path.LocatedNode.{LocatedNode}
-use Rattle.cursor.specs.declared.path.LocatedNode.the-variants.{At, Nowhere}
+use Rattle.cursor.specs.declared.path.LocatedNode.the-variants.{At, Refused}
 use Rattle.cursor.specs.Position.{at, childCount}
 use Rattle.cursor.specs.Path.{LeadsToNode}
-use Rattle.cursor.specs.Answers.{answerAtPath}
+use Rattle.cursor.specs.Answers.{Tells, answerAtPath}
 use Rattle.cursor.proofs.Positions.{children-count}
-use Rattle.cursor.proofs.AskingNodes.{ofNode-token, no-node-asked, node-facts, node-asked}
+use Rattle.cursor.proofs.AskingNodes.{ofNode-token, no-node-told, node-facts, node-asked}
 use Rattle.cursor_node.specs.Children.{ahead, nearest, childQuestion}
 use Rattle.cursor_node.proofs.Nearest.{all-ahead}
 
@@ -33,8 +34,8 @@ module _ {s : Store} {r depth : ℕ} {l : List ℕ} {x : LocatedNode} (d : Leads
   abbrev es : List Entry
   es = entries s
 
-  pub no-children : x ≡ Nowhere → answerAtPath es r depth l (childQuestion y tokens) ≡ refused 4
-  no-children h = no-node-asked d h (childQuestion y tokens) (λ e n t. child-ask y (treeAt es r) e tokens ∙ ofNode-token e t _)
+  pub no-children : {why : Refusal} → x ≡ Refused why → Tells l l (answerAtPath es r depth l (childQuestion y tokens)) (answer.Refused why)
+  no-children h = no-node-told d h (childQuestion y tokens) (λ e n t. child-ask y (treeAt es r) e tokens ∙ ofNode-token e t _)
 
   pub child-asked : {c : Cursor} → x ≡ At c → {n : ℕ} → n ≡ childCount es c
       → maybe (nearest y (offered tokens (ahead y (children (at es (take (c .depth) l) c)) n))) ≡ answerAtPath es r depth l (childQuestion y tokens)

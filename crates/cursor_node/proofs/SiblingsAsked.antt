@@ -16,10 +16,13 @@ use Rattle.definitions.specs.Query as query
 use Rattle.definitions.proofs.Laws.{false≢true}
 use Rattle.green.specs.Store.{Store, entries}
 use Rattle.utility_types.specs.declared.Direction.{Direction}
+use Rattle.utility_types.specs.declared.Refusal.{Refusal}
+use Rattle.utility_types.specs.declared.Refusal.the-variants.{NoSuchElement}
 use Rattle.utility_types.specs.declared.Direction.the-variants.{Next, Prev}
 use Rattle.cursor.specs.declared.position.Cursor.{Cursor}
 use Rattle.cursor.specs.declared.position.Answer.{Answer}
 use Rattle.cursor.specs.declared.position.Answer.the-variants.{None}
+use Rattle.cursor.specs.declared.position.Answer.the-variants as answer
 use Rattle.cursor.specs.declared.path.Remember.the-variants.{Parent}
 use Rattle.cursor.specs.declared.path.Remembered.the-variants.{Of, NoNode}
 use Rattle.cursor.specs.declared.path.Place.{Place}
@@ -31,10 +34,10 @@ use Rattle.cursor.specs.Path.{Leads}
 use Rattle.cursor.specs.Answers.{Tells, answerAtPath}
 use Rattle.cursor.proofs.Positions.{children-count}
 use Rattle.cursor.proofs.Telling.{told-as}
-use Rattle.cursor.proofs.Asking.{answer-none, answer-of, nowhere-named, located-named}
+use Rattle.cursor.proofs.Asking.{answer-none, answer-of, refused-by, refused-named, refused-4, located-named}
 use Rattle.cursor.proofs.AskingNodes.{ofNode-node, ofNode-token}
 use Rattle.cursor_node.specs.declared.siblings.ParentAndIndex.{ParentAndIndex}
-use Rattle.cursor_node.specs.declared.siblings.ParentAndIndex.the-variants.{Child, Root, Nowhere}
+use Rattle.cursor_node.specs.declared.siblings.ParentAndIndex.the-variants.{Child, Root, Refused}
 use Rattle.cursor_node.specs.Children.{ahead, nearest}
 use Rattle.cursor_node.specs.Siblings.{siblingQuestion, siblingsLeft, IsChild, IsParentAndIndex}
 use Rattle.cursor_node.proofs.ElementAsked.{root-orphan, parent-above, parent-is}
@@ -76,8 +79,8 @@ module _ {s : Store} {r depth : ℕ} {l : List ℕ} {x : Located} (d : Leads s P
   abbrev es : List Entry
   es = entries s
 
-  pub nowhere-siblings : x ≡ located.Nowhere → IsParentAndIndex s r depth l tokens Nowhere
-  nowhere-siblings h = record { facts = λ y. answer-none (nowhere-named d h) (siblingQuestion y tokens) }
+  pub refused-siblings : {why : Refusal} → x ≡ located.Refused why → IsParentAndIndex s r depth l tokens (Refused why)
+  refused-siblings h = record { facts = (refused-4 d h, λ y. answer-none (refused-named d h) (siblingQuestion y tokens)) }
 
   module _ {p : Place} (h : x ≡ At p) where
     abbrev it : Element
@@ -87,8 +90,8 @@ module _ {s : Store} {r depth : ℕ} {l : List ℕ} {x : Located} (d : Leads s P
         ≡ ofSibling tokens it (maybe (bind (parent (treeAt es r) (take depth l)) (λ u. nearest y (offered tokens (beside y (children u) (indexOf (take depth l)))))))
     siblings-asked y = answer-of (located-named d h) (siblingQuestion y tokens) ∙ sibling-ask y (treeAt es r) it tokens
 
-    pub token-siblings : tokens ≡ false → isNode (treeAt es (p .at .number)) ≡ false → IsParentAndIndex s r depth l tokens Nowhere
-    token-siblings f z = record { facts = λ y. siblings-asked y ∙ ofSibling-token tokens it f z _ }
+    pub token-siblings : tokens ≡ false → isNode (treeAt es (p .at .number)) ≡ false → IsParentAndIndex s r depth l tokens (Refused NoSuchElement)
+    token-siblings f z = record { facts = (refl, λ y. siblings-asked y ∙ ofSibling-token tokens it f z _) }
 
     module _ (m : IsOffered tokens (treeAt es (p .at .number))) where
       pub root-siblings : p .remembered ≡ NoNode → IsParentAndIndex s r depth l tokens Root
@@ -111,8 +114,8 @@ module _ {s : Store} {r depth : ℕ} {l : List ℕ} {x : Located} (d : Leads s P
 
 -- sibling_towards, by what parent_and_index says
 module _ {s : Store} {r depth : ℕ} {l : List ℕ} {tokens : Bool} {x : ParentAndIndex} (f : IsParentAndIndex s r depth l tokens x) (y : Direction) where
-  pub no-siblings : x ≡ Nowhere → answerAtPath (entries s) r depth l (siblingQuestion y tokens) ≡ refused 4
-  no-siblings e = (rw e at (f .facts)) y
+  pub no-siblings : {why : Refusal} → x ≡ Refused why → Tells l l (answerAtPath (entries s) r depth l (siblingQuestion y tokens)) (answer.Refused why)
+  no-siblings e = let z = rw e at (f .facts) in refused-by (z .0) (z .1 y)
 
   pub root-told : x ≡ Root → Tells l l (answerAtPath (entries s) r depth l (siblingQuestion y tokens)) None
   root-told e = record { says = sym ((rw e at (f .facts)) y); kept = refl }

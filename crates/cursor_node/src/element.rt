@@ -11,7 +11,6 @@ use cursor::path::Remembered;
 use cursor::position;
 use cursor::position::Answer;
 use green::Counts;
-use utility_types::Refusal;
 
 pub fn element_at(
     records: &[u64],
@@ -35,8 +34,9 @@ pub fn element_at(
         depth,
         Remember::Parent,
     );
-    let Located::At(place) = found else {
-        return Answer::Refused(Refusal::NoSuchElement);
+    let place = match found {
+        Located::Refused(why) => return Answer::Refused(why),
+        Located::At(place) => place,
     };
     Answer::Element(position::syntax_element(records, children, text, used, place.at))
 }
@@ -64,8 +64,9 @@ pub fn parent(
         depth,
         Remember::Parent,
     );
-    let Located::At(place) = found else {
-        return Answer::Refused(Refusal::NoSuchElement);
+    let place = match found {
+        Located::Refused(why) => return Answer::Refused(why),
+        Located::At(place) => place,
     };
     let above = place.remembered;
     let Remembered::Of(up) = above else {

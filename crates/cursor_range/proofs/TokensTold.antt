@@ -20,7 +20,8 @@ use Rattle.definitions.specs.Query as query
 use Rattle.definitions.specs.Query.{Question, ask}
 use Rattle.utility_types.specs.Elements.{shownAt}
 use Rattle.utility_types.specs.declared.TokenAtOffset.{TokenAtOffset}
-use Rattle.utility_types.specs.declared.Refusal.the-variants.{NoSuchElement, OutOfRange}
+use Rattle.utility_types.specs.declared.Refusal.{Refusal}
+use Rattle.utility_types.specs.declared.Refusal.the-variants.{OutOfRange}
 use Rattle.definitions.proofs.Laws.{false≢true}
 use Rattle.green.specs.Store.{Store, entries}
 use Rattle.cursor.specs.declared.position.Cursor.{Cursor}
@@ -30,7 +31,7 @@ use Rattle.cursor.specs.Position.{at, Placed, Reached}
 use Rattle.cursor.specs.Path.{LeadsToNode}
 use Rattle.cursor.specs.Answers.{answerAtPath}
 use Rattle.cursor.proofs.Reaching.{path-joined}
-use Rattle.cursor.proofs.AskingNodes.{ofNode-token, no-node-asked, node-facts, node-asked}
+use Rattle.cursor.proofs.AskingNodes.{ofNode-token, no-node-4, no-node-asked, node-facts, node-asked}
 use Rattle.cursor_range.specs.declared.tokens.Hits.{Hits}
 use Rattle.cursor_range.specs.declared.tokens.Hits.the-variants.{Nothing, Single, Between}
 use Rattle.cursor_range.specs.declared.offset.Tokens.the-variants.{At, Refused}
@@ -120,9 +121,9 @@ module _ {s : Store} {root depth : ℕ} {l : List ℕ} {y : LocatedNode} (d : Le
   es = entries s
 
   -- a refusal leaves both paths as they were
-  pub no-node-told : y ≡ node.Nowhere → {r : List ℕ} → TellsTokens l l r r (answerAtPath es root depth l (Question.tokenAtOffset x)) (Refused NoSuchElement)
+  pub no-node-told : {why : Refusal} → y ≡ node.Refused why → {r : List ℕ} → TellsTokens l l r r (answerAtPath es root depth l (Question.tokenAtOffset x)) (Refused why)
   unfolding ask
-  no-node-told h = record { says = sym (no-node-asked d h (Question.tokenAtOffset x) (λ e n t. ofNode-token e t _)); kept = (refl, refl) }
+  no-node-told h = rw (no-node-4 d h) (record { says = sym (no-node-asked d h (Question.tokenAtOffset x) (λ e n t. ofNode-token e t _)); kept = (refl, refl) })
 
   module _ {c : Cursor} (h : y ≡ node.At c) {n : ℕ} (e : n ≡ textLen (treeAt es (c .number))) {b : Bool} (w : b ≡ isOutside (c .start) (c .start + n) x) where
     by-range : answerAtPath es root depth l (Question.tokenAtOffset x) ≡ cond b (refused 5) (answers (tokenAtOffset x (at es (take depth l) c)))

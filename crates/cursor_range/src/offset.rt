@@ -92,8 +92,9 @@ pub fn token_at_offset(
     ensures { λ r. ⌜ AnswersTokens (entered records children text used) root depth left right offset r ⌝ }
 {
     let found = path::locate_node(records, children, text, used, root, left, depth);
-    let LocatedNode::At(at) = found else {
-        return Tokens::Refused(Refusal::NoSuchElement);
+    let at = match found {
+        LocatedNode::Refused(why) => return Tokens::Refused(why),
+        LocatedNode::At(at) => at,
     };
     let len = position::text_len(records, children, text, used, at);
     if is_outside(at.start, at.start + len, offset) {

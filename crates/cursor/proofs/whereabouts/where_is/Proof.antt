@@ -9,16 +9,16 @@ returns : tie.Need-returns
 returns c = number-refused (c .before .before .before .before .before .pre) _ _ _ (c .if1 .taken)
 
 returns-2 : tie.Need-returns-2
-returns-2 c = root-no-node (c .before .before .before .before .before .before .before .before .pre) _ _ _ (c .before .before .root-node .ensures) (c .enum-told .given .1)
+returns-2 c = root-no-node (c .before .before .before .before .before .before .before .before .before .pre) _ _ _ (c .before .before .before .root-node .ensures) (c .before .top .given .1)
 
 occurrence-in-requires : tie.Need-occurrence-in-requires
-occurrence-in-requires c κs = (root-accepted (c .before .before .before .before .root-node .ensures) (c .before .before .top .given .1) .1 .placed, search needs)
+occurrence-in-requires c κs = (root-accepted (c .before .before .before .before .root-node .ensures) (c .before .before .top2 .given .1) .1 .placed, search needs)
 
 returns-3 : tie.Need-returns-3
-returns-3 c = where-none (c .before .before .before .before .before .before .before .before .before .before .before .before .before .pre) _ _ _ (c .before .before .before .before .before .before .before .root-node .ensures) (c .before .before .before .before .before .before .before .before .if1 .left) (c .before .before .before .before .before .top .given .1) (c .before .before .occurrence-in .ensures) (c .enum-told2 .given .1)
+returns-3 c = where-none (c .before .before .before .before .before .before .before .before .before .before .before .before .before .pre) _ _ _ (c .before .before .before .before .before .before .before .root-node .ensures) (c .before .before .before .before .before .before .before .before .if1 .left) (c .before .before .before .before .before .top2 .given .1) (c .before .before .occurrence-in .ensures) (c .enum-told .given .1)
 
 returns-4 : tie.Need-returns-4
-returns-4 c = where-found (c .before .before .before .before .before .before .before .before .before .before .before .before .before .before .pre) _ _ _ (c .before .before .before .before .before .before .before .before .root-node .ensures) (c .before .before .before .before .before .before .before .before .before .if1 .left) (c .before .before .before .before .before .before .top .given .1) (c .before .before .before .occurrence-in .ensures) (c .before .found .given .1)
+returns-4 c = where-found (c .before .before .before .before .before .before .before .before .before .before .before .before .before .before .pre) _ _ _ (c .before .before .before .before .before .before .before .before .root-node .ensures) (c .before .before .before .before .before .before .before .before .before .if1 .left) (c .before .before .before .before .before .before .top2 .given .1) (c .before .before .before .occurrence-in .ensures) (c .before .found .given .1)
 
 pub where-is-spec : {M : Type 1} → statement M
 where-is-spec =
@@ -28,8 +28,8 @@ where-is-spec =
     returns
     (λ c κs. search needs)
     (λ c. search needs)
-    (λ c. search needs)
     returns-2
+    (λ c. search needs)
     occurrence-in-requires
     (λ c. search needs)
     (λ c. search needs)

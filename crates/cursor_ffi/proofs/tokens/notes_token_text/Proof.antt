@@ -1,6 +1,6 @@
 -- `notes_token_text` meets its contract. Assumes nothing.
 use native.Mathlib.Omega.{arith}
-use Rattle.cursor.proofs.Asking.{nowhere-named, located-facts, located-named}
+use Rattle.cursor.proofs.Asking.{refused-named, located-facts, located-named}
 use Rattle.cursor.proofs.Positions.{inner, leaf}
 use Rattle.cursor_ffi.proofs.TokenText.{nothing-there, node-there, token-there, text-within, text-lies}
 use borrow.Author.Needs.{needs}
@@ -8,7 +8,7 @@ use Rattle.cursor_ffi.proofs.tokens.notes_token_text.Statement.{stateme
 use Rattle.cursor_ffi.proofs.tokens.notes_token_text.Tie as tie
 
 returns : tie.Need-returns
-returns c = nothing-there (nowhere-named (c .before .before .before .locate .ensures) (c .before .enum-told .given .1)) (c .refused .ensures)
+returns c = nothing-there (refused-named (c .before .before .before .locate .ensures) (c .before .enum-told .given .1)) (c .refused .ensures)
 
 node-or-token-requires : tie.Need-node-or-token-requires
 node-or-token-requires c κs = located-facts (c .before .before .before .before .locate .ensures) (c .before .before .found .given .1) .placed

@@ -1,7 +1,6 @@
 -- `next_sibling` meets its contract. Assumes nothing.
 use native.Mathlib.Omega.{arith}
 use Rattle.utility_types.specs.declared.Direction.the-variants.{Next}
-use Rattle.cursor.proofs.Asking.{refused-as}
 use Rattle.cursor_node.proofs.SiblingsAsked.{is-child, no-siblings, root-told, sibling-told}
 use borrow.Author.Needs.{needs}
 use Rattle.cursor_node.proofs.siblings.next_sibling.Statement.{statement}
@@ -23,7 +22,7 @@ returns-2 : tie.Need-returns-2
 returns-2 c = root-told (c .before .before .parent-and-index .ensures) Next (c .enum-told .given .1)
 
 returns-3 : tie.Need-returns-3
-returns-3 c = refused-as (no-siblings (c .before .before .parent-and-index .ensures) Next (c .enum-told2 .given .1))
+returns-3 c = no-siblings (c .before .before .before .parent-and-index .ensures) Next (c .before .found2 .given .1)
 
 pub next-sibling-spec : {M : Type 1} → statement M
 next-sibling-spec =

@@ -1,6 +1,5 @@
 -- `sibling_towards` meets its contract. Assumes nothing.
 use native.Mathlib.Omega.{arith}
-use Rattle.cursor.proofs.Asking.{refused-as}
 use Rattle.cursor_node.proofs.SiblingsAsked.{is-child, no-siblings, root-told, sibling-told}
 use borrow.Author.Needs.{needs}
 use Rattle.cursor_node.proofs.siblings.sibling_towards.Statement.{statement}
@@ -22,7 +21,7 @@ returns-2 : tie.Need-returns-2
 returns-2 c = root-told (c .before .before .parent-and-index .ensures) (c .before .before .before .before .before .before .before .before .args .direction) (c .enum-told .given .1)
 
 returns-3 : tie.Need-returns-3
-returns-3 c = refused-as (no-siblings (c .before .before .parent-and-index .ensures) (c .before .before .before .before .before .before .before .before .args .direction) (c .enum-told2 .given .1))
+returns-3 c = no-siblings (c .before .before .before .parent-and-index .ensures) (c .before .before .before .before .before .before .before .before .before .args .direction) (c .before .found2 .given .1)
 
 pub sibling-towards-spec : {M : Type 1} → statement M
 sibling-towards-spec =

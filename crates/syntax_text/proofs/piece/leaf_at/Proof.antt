@@ -35,7 +35,7 @@ node-or-token-requires : tie.Need-node-or-token-requires Inv-loop μ-loop
 node-or-token-requires c κs = (c .child .ensures .placed)
 
 returns : tie.Need-returns Inv-loop μ-loop
-returns c = record { token = token-there (c .before .before .before .before .before .loop .inv .node) (c .before .before .before .child .ensures) (child-has (c .before .before .before .before .before .loop .inv .node .inner) (c .before .before .before .before .before .loop .inv .has) (c .before .before .before .before .partition-point .ensures) (c .before .before .before .child .ensures)) (leaf (c .before .before .before .child .ensures .placed) (c .before .before .node-or-token .ensures) (c .enum-told2 .given .1)); parent = (c .before .before .before .before .before .loop .inv .node); some = not-first (c .before .before .before .before .before .loop .inv .node .inner) (c .before .before .before .before .before .loop .inv .has) (c .before .before .before .before .partition-point .ensures) }
+returns c = record { token = token-there (c .before .before .before .before .before .loop .inv .node) (c .before .before .before .child .ensures) (child-has (c .before .before .before .before .before .loop .inv .node .inner) (c .before .before .before .before .before .loop .inv .has) (c .before .before .before .before .partition-point .ensures) (c .before .before .before .child .ensures)) (leaf (c .before .before .before .child .ensures .placed) (c .before .before .node-or-token .ensures) (c .enum-told2 .given .1)); parent = (c .before .before .before .before .before .loop .inv .node); some = not-first (c .before .before .before .before .before .loop .inv .node .inner) (c .before .before .before .before .before .loop .inv .has) (c .before .before .before .before .partition-point .ensures); child = c .before .before .before .child .ensures }
 
 loop-less : tie.Need-loop-less Inv-loop μ-loop
 loop-less c = (c .before .before .before .child .ensures .lower)

@@ -1,7 +1,7 @@
 -- `look_near` meets its contract. Assumes nothing.
 use native.Mathlib.Omega.{arith}
 use Rattle.cursor.proofs.Positions.{inner, leaf}
-use Rattle.syntax_text.proofs.Pieces.{set-out, has-between, token-there, goes-down}
+use Rattle.syntax_text.proofs.Pieces.{last-of, set-out, has-between, token-there, goes-down}
 use borrow.Author.Needs.{needs}
 use Rattle.syntax_text.proofs.piece.look_near.Statement.{statement}
 use Rattle.syntax_text.proofs.piece.look_near.Tie as tie
@@ -10,7 +10,7 @@ returns : tie.Need-returns
 returns c = goes-down (c .before .before .before .before .before .before .before .before .before .before .before .before .before .pre .1) (c .before .before .before .before .before .before .before .child .ensures) (has-between (c .before .before .before .before .before .if2 .taken) (c .before .before .before .before .end-of .ensures .0) (c .before .before .before .if3 .taken)) (inner (c .before .before .before .before .before .before .before .child .ensures .placed) (c .before .before .node-or-token .ensures) (c .enum-told2 .given .1))
 
 returns-2 : tie.Need-returns-2
-returns-2 c = record { token = token-there (c .before .before .before .before .before .before .before .before .before .before .before .before .before .pre .1) (c .before .before .before .before .before .before .before .child .ensures) (has-between (c .before .before .before .before .before .if2 .taken) (c .before .before .before .before .end-of .ensures .0) (c .before .before .before .if3 .taken)) (leaf (c .before .before .before .before .before .before .before .child .ensures .placed) (c .before .before .node-or-token .ensures) (c .enum-told .given .1)); parent = (c .before .before .before .before .before .before .before .before .before .before .before .before .before .pre .1); some = omega arith }
+returns-2 c = record { token = token-there (c .before .before .before .before .before .before .before .before .before .before .before .before .before .pre .1) (c .before .before .before .before .before .before .before .child .ensures) (has-between (c .before .before .before .before .before .if2 .taken) (c .before .before .before .before .end-of .ensures .0) (c .before .before .before .if3 .taken)) (leaf (c .before .before .before .before .before .before .before .child .ensures .placed) (c .before .before .node-or-token .ensures) (c .enum-told .given .1)); parent = (c .before .before .before .before .before .before .before .before .before .before .before .before .before .pre .1); some = omega arith; child = last-of (c .before .before .before .before .before .before .before .child .ensures) }
 
 returns-3 : tie.Need-returns-3
 returns-3 c = set-out (c .before .before .before .before .before .before .before .before .before .before .pre .0 .0) (c .before .before .before .before .before .before .before .before .before .before .pre .0 .1)
