@@ -88,7 +88,7 @@ words-name b [] f k h = absurd (let z : ⊥ = omega (arith, h) in z)
 words-name b (x ∷ []) f k h = absurd (let z : ⊥ = omega (arith, h) in z)
 words-name b (x ∷ y ∷ m) f k h = let z : f + k - f ≡ k = omega arith in rw z refl
 
-text-told : {es : List Entry} {b : List ℕ} {root : ℕ} {p : List ℕ} {t : Tree} {m m′ : List ℕ} {x : ℕ} → 2 ≤ length m → TextLies es b root p t m m′ x → bytesTold b x m′ ≡ text t
+pub text-told : {es : List Entry} {b : List ℕ} {root : ℕ} {p : List ℕ} {t : Tree} {m m′ : List ℕ} {x : ℕ} → 2 ≤ length m → TextLies es b root p t m m′ x → bytesTold b x m′ ≡ text t
 text-told {es} {b} {t = t} {m} h w = rw (w .written .outcome, w .written .words) (words-name b m (firstOf es (w .number)) (textLen t) h ∙ w .bytes)
 
 -- whether a root is a node hangs on its tree: what is absent counts as a token

@@ -3,3 +3,4 @@ pub mod Walking
 pub mod Reading
 pub mod Settled
 pub mod Refused
+pub mod TokenTexts
