@@ -1,4 +1,4 @@
-// Calls 53 and 54: the chunks of a text in a slot.
+// Calls 53 and 54: the chunks of a text in a slot, which is asked to be one of the eight.
 
 ghost use Prim.Native.Nat.{_<_};
 ghost use Rattle.green.specs.Store.{here};

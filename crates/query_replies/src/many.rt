@@ -1,4 +1,4 @@
-// Call 43: many steps of a walk at once, on one line.
+// Call 43: many steps of a walk at once, on one line. For this crate only: a slot is asked to be one of the four of walks.
 
 ghost use Prim.Native.Nat.{_*_, _≤_, _<_};
 ghost use lib.ListN.{length};
@@ -12,7 +12,7 @@ use questions::slots;
 use questions::slots::Slots;
 use questions::walk as kept;
 use replies::many;
-use script::words;
+use utility_types::number;
 
 // As many steps of the walk in a slot as are asked for, unless it is over.
 fn step_many(
@@ -68,7 +68,7 @@ pub fn put(
     let mut events = [0u64; 448];
     let mut left = n;
     while 0 < left {
-        let asked = words::least(left, 64);
+        let asked = number::lesser(left, 64);
         let given = step_many(
             records,
             children,

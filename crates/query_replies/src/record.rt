@@ -1,4 +1,4 @@
-// Calls 60, 61 and 64: what the store keeps of an element, and what its record holds.
+// Calls 60, 61 and 64: what the store keeps of an element, and what its record holds. What shows a record asks for a number that names one.
 
 ghost use mathlib.Core.Path.{_≡_};
 ghost use mathlib.Core.Bool.{false};

@@ -1,4 +1,4 @@
-// Calls 41 to 43: a walk that has begun, which stays in its slot.
+// Calls 41 to 43: a walk that has begun, which stays in its slot. The slot is asked to be one of the four of walks, and the walk to be in order.
 
 ghost use Prim.Native.Nat.{_≤_, _<_};
 ghost use Rattle.green.specs.Store.{here};

@@ -8,6 +8,7 @@ use crate::slots::Slots;
 use crate::walk;
 use query::question::Question;
 use script::call::Call;
+use script::call::complain;
 use script::path;
 use script::words;
 
@@ -74,23 +75,43 @@ fn by_number(call: Call) -> Asked
     asked::ask(root.ok, question, root.value, 0, 0)
 }
 
-// What is asked of the path alone.
-fn question_of(op: u32) -> Question {
+// What a call asks of its path alone, if it is one of those that do.
+enum OfPath {
+    Asks(Question),
+    Nothing,
+}
+
+fn question_of(op: u32) -> OfPath {
     match op {
-        20 => Question::Here,
-        21 => Question::Parent,
-        22 => Question::FirstChild(false),
-        23 => Question::LastChild(false),
-        24 => Question::FirstChild(true),
-        25 => Question::LastChild(true),
-        26 => Question::NextSibling(false),
-        27 => Question::PrevSibling(false),
-        28 => Question::NextSibling(true),
-        29 => Question::PrevSibling(true),
-        30 => Question::FirstToken,
-        31 => Question::LastToken,
-        32 => Question::NextToken,
-        _ => Question::PrevToken,
+        20 => OfPath::Asks(Question::Here),
+        21 => OfPath::Asks(Question::Parent),
+        22 => OfPath::Asks(Question::FirstChild(false)),
+        23 => OfPath::Asks(Question::LastChild(false)),
+        24 => OfPath::Asks(Question::FirstChild(true)),
+        25 => OfPath::Asks(Question::LastChild(true)),
+        26 => OfPath::Asks(Question::NextSibling(false)),
+        27 => OfPath::Asks(Question::PrevSibling(false)),
+        28 => OfPath::Asks(Question::NextSibling(true)),
+        29 => OfPath::Asks(Question::PrevSibling(true)),
+        30 => OfPath::Asks(Question::FirstToken),
+        31 => OfPath::Asks(Question::LastToken),
+        32 => OfPath::Asks(Question::NextToken),
+        33 => OfPath::Asks(Question::PrevToken),
+        _ => OfPath::Nothing,
+    }
+}
+
+// Nothing before the path. A call that is none of these is broken, and told so.
+fn by_path_alone(call: Call, path: &mut [u32; 64]) -> Asked
+    ensures { λ r. ⌜ r .slot < 8 ⌝ }
+{
+    let of = question_of(call.op);
+    match of {
+        OfPath::Asks(question) => by_path(call, true, question, call.m, path),
+        OfPath::Nothing => {
+            complain(call, b"it asks nothing of a path");
+            asked::nothing()
+        }
     }
 }
 
@@ -104,10 +125,7 @@ pub fn read(call: Call, path: &mut [u32; 64], other: &mut [u32; 64]) -> Asked
         35 | 36 => by_range(call, path),
         37 => by_two_paths(call, path, other),
         38 => by_number(call),
-        _ => {
-            let question = question_of(op);
-            by_path(call, true, question, call.m, path)
-        }
+        _ => by_path_alone(call, path),
     }
 }
 

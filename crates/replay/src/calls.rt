@@ -15,6 +15,7 @@ use script::store;
 use script::store::Store;
 use script::words;
 use std::num::wrapping_add_usize;
+use utility_types::number;
 
 // Why a store's calls are over: the script asks for another store, or nothing more can be read of it. The next call's
 // ordinal, and how many words of the longest script are left.
@@ -124,9 +125,9 @@ pub fn on_store(
 ) -> After
     ensures { λ r. ⌜ (r .more ≡ true → r .left < words) ⌝ }
 {
-    let r = words::least(asked.records, records.len() / 8);
-    let c = words::least(asked.children, children.len());
-    let t = words::least(asked.text, text.len());
+    let r = number::lesser(asked.records, records.len() / 8);
+    let c = number::lesser(asked.children, children.len());
+    let t = number::lesser(asked.text, text.len());
     answer_all(
         fd,
         out,

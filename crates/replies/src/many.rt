@@ -1,4 +1,4 @@
-// The events of many steps of a walk, on one line.
+// The events of many steps of a walk, on one line. What shows one event asks that its seven words are there.
 
 ghost use Prim.Native.Nat.{_+_, _≤_};
 ghost use lib.ListN.{length};

@@ -4,7 +4,6 @@
 ghost use mathlib.Core.Path.{_≡_};
 ghost use mathlib.Core.Bool.{true, false};
 ghost use Prim.Native.Nat.{_<_};
-use crate::words::least;
 use libc::STDERR_FILENO;
 use utility_types::number;
 
@@ -82,7 +81,7 @@ fn no_head(call: Call) -> Head
 
 // The byte that comes next where `left` words of the longest script are left.
 fn start_of(left: usize) -> usize {
-    4 * (MOST_WORDS - least(left, MOST_WORDS))
+    4 * (MOST_WORDS - number::lesser(left, MOST_WORDS))
 }
 
 // The head of the call that comes next; `left` words of the longest script are left.

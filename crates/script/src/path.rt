@@ -1,14 +1,14 @@
-// A path among a call's words: the root's number, how many child indexes there are, and these.
+// A path among a call's words: the root's number, how many child indexes there are, and these. A place that is lent for it has 64 indexes.
 
 ghost use Prim.Native.Nat.{_≤_};
 ghost use lib.ListN.{length};
 use crate::call::Call;
 use crate::words::has_words;
-use crate::words::least;
 use crate::words::misfit;
 use crate::words::pass_over;
 use crate::words::read_words;
 use crate::words::take_word;
+use utility_types::number;
 
 // A path whose first 64 indexes were put into a lent place; `left` of the call's words come after it.
 pub struct Path {
@@ -31,7 +31,7 @@ fn no_path() -> Path {
 fn read_indexes(call: Call, path: &mut [u32], count: usize) -> bool
     requires { ⌜ 64 ≤ length (now path) ⌝ }
 {
-    let kept = least(count, 64);
+    let kept = number::lesser(count, 64);
     if !read_words(call, path, kept) {
         return false;
     }

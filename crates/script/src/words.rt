@@ -1,18 +1,13 @@
-// The words of a call's arguments.
+// The words of a call's arguments. For the crates above: a bound that a word must be below is asked not to be 0, and a lent place to have room for the
+// words that are put there.
 
 ghost use mathlib.Core.Path.{_≡_};
-ghost use Prim.Native.Nat.{_^_, _≤_, _<_, min};
+ghost use Prim.Native.Nat.{_^_, _≤_, _<_};
 ghost use lib.ListN.{length};
 use crate::call::Call;
 use crate::call::complain;
 use crate::call::fill_whole;
 use utility_types::number;
-
-pub fn least(a: usize, b: usize) -> usize
-    ensures { λ r. ⌜ r ≡ min a b ⌝ }
-{
-    if a < b { a } else { b }
-}
 
 // One word of a call's arguments, if it came.
 pub struct Word {
