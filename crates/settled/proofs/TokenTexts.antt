@@ -35,7 +35,7 @@ of-element e = go (isNode (e .tree))
     go false = refl
 
 of-way : (o : Option Element) → option (refused 4) (λ e. cond (isNode (e .tree)) (refused 4) (ok (text (e .tree)))) o ≡ textIn (bind o tokenOf)
-unfolding option
+unfolding option bind
 of-way none = refl
 of-way (some e) = of-element e
 
@@ -43,7 +43,7 @@ of-way (some e) = of-element e
 by-tests : (a b t : Bool) (o : Option Element)
     → cond a (refused 4) (cond (not (b && t)) (refused 4) (option (refused 4) (λ e. cond (isNode (e .tree)) (refused 4) (ok (text (e .tree)))) (cond t o none)))
     ≡ textIn (bind (cond (a || not (b && t)) none o) tokenOf)
-unfolding option
+unfolding option bind
 by-tests true b t o = refl
 by-tests false true true o = of-way o
 by-tests false true false o = refl
@@ -55,6 +55,7 @@ asked-named es r depth l = by-tests (ltb 64 depth) (ltb r (length es)) (isNode (
 
 pub text-asked : (es : List Entry) (b : List ℕ) (r depth : ℕ) (l m m′ : List ℕ) (x : ℕ) → 2 ≤ length m
     → TokenText es b r (take depth l) (namedToken es r depth l) m m′ x → textAnswer b x m′ ≡ tokenTextAsked es r depth l
+unfolding option
 text-asked es b r depth l m m′ x h k = go (namedToken es r depth l) refl ∙ sym (asked-named es r depth l)
   where
     go : (o : Option Tree) → namedToken es r depth l ≡ o → textAnswer b x m′ ≡ textIn (namedToken es r depth l)
