@@ -24,7 +24,8 @@ use Rattle.cursor.specs.declared.path.LocatedNode.the-variants as node-a
 use Rattle.cursor.specs.Position.{Placed, childCount, ChildAt}
 use Rattle.cursor.specs.Path.{IsRootNode}
 use Rattle.cursor.proofs.Telling.{slice-set}
-use Rattle.cursor.proofs.Paths.{some-at, root-refused, root-accepted}
+use Rattle.cursor.proofs.Paths.{root-refused, root-accepted}
+use Rattle.definitions.proofs.Lists.{some-at}
 use Rattle.cursor.specs.declared.whereabouts.Occurrence.{Occurrence}
 use Rattle.cursor.specs.declared.whereabouts.Occurrence.the-variants.{At, Nowhere}
 use Rattle.cursor.specs.declared.whereabouts.Whereabouts.the-variants.{Refused}

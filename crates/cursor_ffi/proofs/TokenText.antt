@@ -1,21 +1,18 @@
 -- Where a token's text lies. Assumes nothing.
-use Prim.Native.Nat.{ℕ, suc, _+_, _-_, _≤_}
+use Prim.Native.Nat.{ℕ, _+_, _-_, _≤_}
 use native.Mathlib.Omega.{arith}
 use mathlib.Core.Path.{_≡_, refl, sym, ap, subst, _∙_}
 use mathlib.Core.List.{List, [], _∷_}
 use mathlib.Core.Bool.{true, false}
 use mathlib.Core.Option.{Option, none, some, bind, Option·none-ne-some, Option·some-injective}
 use lib.ListN.{length, take, drop, length-take, length-drop}
-use lib.Seq.{split-at}
 use Rattle.definitions.specs.Tree.{Tree, isNode, text, textLen}
-use Rattle.definitions.specs.Entry.{Entry, absent, treeAt, entryAt, numberAt, childPlaces, textBytes, ownBytes}
+use Rattle.definitions.specs.Entry.{Entry, treeAt, entryAt, numberAt, textBytes}
 use Rattle.definitions.proofs.Laws.{text-length}
-use Rattle.definitions.proofs.Entries.{textBytes-append}
 use Rattle.definitions.specs.Element.{Element}
 use Rattle.green.specs.Store.{Store, entries}
 use Rattle.green.specs.Layout.{firstOf, ownCount}
-use Rattle.green.proofs.Reading.{ownFirst-token}
-use Rattle.green.proofs.Answering.{token-bound, token-part}
+use Rattle.green.proofs.Answering.{token-bound, token-used, token-part}
 use Rattle.cursor.specs.declared.position.Cursor.{Cursor}
 use Rattle.cursor.specs.Position.{Placed}
 use Rattle.cursor.proofs.Named.{Names}
@@ -55,12 +52,7 @@ module _ {es : List Entry} {r depth : ℕ} {l : List ℕ} {e : Element} (n : Nam
 module _ {s : Store} {c : Cursor} (p : Placed s c) (h : isNode (treeAt (entries s) (c .number)) ≡ false) {f k : ℕ} (first : f ≡ firstOf (entries s) (c .number))
     (count : k ≡ ownCount (entryAt (entries s) (c .number))) where
   text-used : f + k ≤ textBytes (entries s)
-  unfolding textBytes ownCount
-  text-used =
-      let n = c .number in
-      let es = entries s in
-      let own : k ≡ ownBytes (treeAt es n) = count ∙ rw h refl in
-      omega (arith, first ∙ ownFirst-token (childPlaces (take n es)) (textBytes (take n es)) (entryAt es n) h, own, ap textBytes (split-at es n absent (p .known .within)) ∙ textBytes-append (take n es) (entryAt es n ∷ drop (suc n) es))
+  text-used = omega (arith, token-used s (c .number) (p .known) h, first, count)
 
   pub text-within : f + k ≤ length (s .text)
   text-within = omega (arith, token-bound s (c .number) (p .known) h, first, count)

@@ -1,9 +1,10 @@
 -- Lists by index, and lists mapped. Assumes nothing.
-use Prim.Native.Nat.{ℕ, zero, suc}
+use Prim.Native.Nat.{ℕ, zero, suc, _≤_, _<_}
+use native.Mathlib.Omega.{arith}
 use mathlib.Core.Path.{_≡_, refl, sym, ap}
 use mathlib.Core.List.{List, [], _∷_, map, cons-ne-nil}
 use mathlib.Core.Option.{none, some}
-use lib.ListN.{take, drop, getElem?, set}
+use lib.ListN.{length, take, drop, getD, getElem?, set}
 
 module _ {A : Type 0} where
   pub none-there : (l : List A) (k : ℕ) → drop k l ≡ [] → getElem? l k ≡ none
@@ -16,6 +17,16 @@ module _ {A : Type 0} where
   some-there [] (suc k) {c} {cs} h = absurd (cons-ne-nil c cs (sym h))
   some-there (y ∷ l) zero h = (cc, cc)
   some-there (y ∷ l) (suc k) h = some-there l k h
+
+pub some-at : (xs : List ℕ) (i : ℕ) → i < length xs → getElem? xs i ≡ some (getD xs i 0)
+some-at [] i h = absurd (omega arith)
+some-at (x ∷ xs) zero h = refl
+some-at (x ∷ xs) (suc i) h = some-at xs i (omega arith)
+
+pub none-at : (xs : List ℕ) (i : ℕ) → length xs ≤ i → getElem? xs i ≡ none
+none-at [] i h = refl
+none-at (x ∷ xs) zero h = absurd (omega arith)
+none-at (x ∷ xs) (suc i) h = none-at xs i (omega arith)
 
 module _ {A B : Type 0} (f : A → B) where
   pub map-take : (i : ℕ) (l : List A) → map f (take i l) ≡ take i (map f l)

@@ -6,14 +6,15 @@ use mathlib.Core.List.{List, [], _∷_}
 use mathlib.Core.Bool.{Bool, true, false, cond, not}
 use lib.Dec.{ltb}
 use lib.ListN.{length, getD, take, drop}
+use lib.Seq.{split-at}
 use borrow.Author.Tests.{ltb-true, lt-ltb, le-ltb}
 use Rattle.definitions.specs.Prelude.{Result, ok, refused}
 use Rattle.definitions.specs.Tree.{Tree, token, node, kind, isNode, text, childrenOf, count, textLen, size, height}
 use Rattle.definitions.specs.Hash.{hash}
-use Rattle.definitions.specs.Entry.{entryAt, treeAt, childPlaces, textBytes, ownBytes}
+use Rattle.definitions.specs.Entry.{absent as absentEntry, entryAt, treeAt, childPlaces, textBytes, ownBytes}
 use Rattle.definitions.specs.Refusal.{isAbsent, isNoNode, isRangeOutside}
 use Rattle.definitions.proofs.Limits.{absent, present}
-use Rattle.definitions.proofs.Entries.{treesAt-count}
+use Rattle.definitions.proofs.Entries.{treesAt-count, textBytes-append}
 use Rattle.definitions.proofs.Results.{ok≢refused}
 use Rattle.definitions.proofs.Laws.{false≢true}
 use Rattle.utility_types.specs.Numbers.{refusalNumber}
@@ -148,6 +149,14 @@ module _ (s : Store) (n : ℕ) (h : Known s n) (d : isNode (treeAt (entries s) n
 
   pub token-bound : firstOf (entries s) n + ownCount (entryAt (entries s) n) ≤ length (s .text)
   token-bound = omega (arith, token-first, token-count, text-bound s n h)
+
+  -- and among the bytes that are in use
+  pub token-used : firstOf (entries s) n + ownCount (entryAt (entries s) n) ≤ textBytes (entries s)
+  unfolding textBytes
+  token-used =
+      let parts : textBytes (entries s) ≡ textBytes (take n (entries s)) + textBytes (entryAt (entries s) n ∷ drop (suc n) (entries s)) =
+      ap textBytes (split-at (entries s) n absentEntry (h .within)) ∙ textBytes-append (take n (entries s)) (entryAt (entries s) n ∷ drop (suc n) (entries s)) in
+      omega (arith, token-first, token-count, parts)
 
   pub token-part : (f c : ℕ) → f ≡ firstOf (entries s) n → c ≡ ownCount (entryAt (entries s) n) → take (f + c - f) (drop f (s .text)) ≡ text (treeAt (entries s) n)
   token-part f c p q =

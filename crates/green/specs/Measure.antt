@@ -12,8 +12,8 @@ pub record MeasureOf (t : Tree) (x : Measure) : Type 0 where
   pub height : x .height ≡ height t
   pub hash : x .hash ≡ hash t
 
--- small enough to be added up
-pub record Fits (x : Measure) : Type 0 where
+-- within the limits of 14, so that 4,096 of them can be added up
+pub record Summable (x : Measure) : Type 0 where
   pub len : x .len ≤ 4294967295
   pub size : x .size ≤ 1048576
   pub height : x .height ≤ 64

@@ -11,7 +11,7 @@ ghost use Rattle.definitions.specs.Entry.{entryAt, treeAt};
 ghost use Rattle.green.specs.Layout.{tag, ownCount, headerWords, firstOf, wordsOf};
 ghost use Rattle.green.specs.Store.{here, entered, entries};
 ghost use Rattle.green.specs.Valid.{Known};
-ghost use Rattle.green.specs.Measure.{MeasureOf, Fits};
+ghost use Rattle.green.specs.Measure.{MeasureOf, Summable};
 use crate::Counts;
 use utility_types::SyntaxKind;
 
@@ -112,7 +112,7 @@ pub fn measure_of(
     n: usize,
 ) -> Measure
     requires { ⌜ Known (here records children text used) n ⌝ }
-    ensures { λ r. ⌜ MeasureOf (treeAt (entries (entered records children text used)) n) r × Fits r ⌝ }
+    ensures { λ r. ⌜ MeasureOf (treeAt (entries (entered records children text used)) n) r × Summable r ⌝ }
 {
     Measure {
         len: text_len(records, children, text, used, n),

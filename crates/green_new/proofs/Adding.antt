@@ -15,7 +15,7 @@ use Rattle.definitions.specs.Hash.{addWord, addWords, sharableOver, nodeHash, h
 use Rattle.definitions.specs.Entry.{Entry, treeAt, treesAt}
 use Rattle.definitions.proofs.Laws.{hashes-length}
 use Rattle.definitions.proofs.Entries.{treesAt-count}
-use Rattle.green.specs.Measure.{MeasureOf, Fits}
+use Rattle.green.specs.Measure.{MeasureOf, Summable}
 use Rattle.green.specs.declared.record.Measure.{Measure}
 use Rattle.green_new.specs.Over.{snoc, firsts, treeIn, OverOf, Adds, Addable}
 use Rattle.green_new.specs.declared.measure.Over.{Over}
@@ -146,7 +146,7 @@ module _ {a : Over} {x : Measure} {r : Over} (c : r .count ≡ a .count + 1) (s 
 pub addable-none : {h : ℕ} → Addable (record { count = 0; «is_sharable» = true; measure = record { len = 0; size = 1; height = 1; hash = h } }) 0
 addable-none = record { count = refl; len = omega arith; size = omega arith; height = omega arith }
 
-pub addable-more : {a : Over} {x : Measure} {r : Over} {n : ℕ} → Addable a n → Fits x → r .count ≡ a .count + 1 → r .measure .height ≡ max (a .measure .height) (x .height + 1)
+pub addable-more : {a : Over} {x : Measure} {r : Over} {n : ℕ} → Addable a n → Summable x → r .count ≡ a .count + 1 → r .measure .height ≡ max (a .measure .height) (x .height + 1)
     → r .measure .len ≡ a .measure .len + x .len → r .measure .size ≡ a .measure .size + x .size → Addable r (n + 1)
 addable-more p q c g l z = record {
   count = omega (arith, c, p .count);
@@ -195,7 +195,7 @@ pub adding-none : {a : Over} {f : Forest} → Addable a 0 → Adding a f a 0
 adding-none {f = f} r = record { within = omega arith; room = r; over = λ k o. over-start f o }
 
 module _ {a₀ : Over} {f : Forest} {a : Over} {i : ℕ} (g : Adding a₀ f a i) where
-  pub adding-room : count f ≤ 4096 → i < count f → {x : Measure} → Fits x → Addable a (a .count) × (a .count ≤ 4096) × Fits x
+  pub adding-room : count f ≤ 4096 → i < count f → {x : Measure} → Summable x → Addable a (a .count) × (a .count ≤ 4096) × Summable x
   adding-room few l q = (
     record { count = refl; len = omega (arith, g .room .len, g .room .count); size = omega (arith, g .room .size, g .room .count); height = g .room .height },
     omega (arith, g .room .count),
@@ -216,7 +216,7 @@ pub numbers-none : {a : Over} {es : List Entry} {ns : List ℕ} → Addable a 0 
 numbers-none r = record { adding = adding-none r }
 
 module _ {a₀ : Over} {es : List Entry} {ns : List ℕ} {a : Over} {i : ℕ} (g : AddingAt a₀ es ns a i) where
-  pub numbers-room : length ns ≤ 4096 → i < length ns → {x : Measure} → Fits x → Addable a (a .count) × (a .count ≤ 4096) × Fits x
+  pub numbers-room : length ns ≤ 4096 → i < length ns → {x : Measure} → Summable x → Addable a (a .count) × (a .count ≤ 4096) × Summable x
   numbers-room few l q = adding-room (g .adding) (omega (arith, treesAt-count es ns)) (omega (arith, treesAt-count es ns)) q
 
   pub numbers-more : i < length ns → {n : ℕ} → n ≡ getD ns i 0 → {x : Measure} → MeasureOf (treeAt es n) x → {b : Over} → Addable b (a .count + 1) → Adds a x b → AddingAt a₀ es ns b (i + 1)

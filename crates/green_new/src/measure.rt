@@ -2,7 +2,7 @@
 
 ghost use mathlib.Core.Path.{_≡_};
 ghost use mathlib.Core.Bool.{not, _&&_, cond};
-ghost use Prim.Native.Nat.{max, _+_, _≤_};
+ghost use Prim.Native.Nat.{_+_, _≤_};
 ghost use lib.ListN.{length};
 ghost use lib.Dec.{eqb, ltb};
 ghost use Rattle.definitions.specs.Tree.{token, nil};
@@ -10,7 +10,7 @@ ghost use Rattle.definitions.specs.Hash.{addWord, tokenHash};
 ghost use Rattle.definitions.specs.Entry.{treesAt};
 ghost use Rattle.green.specs.Store.{here, entered, entries};
 ghost use Rattle.green.specs.Valid.{AllBelow, Valid};
-ghost use Rattle.green.specs.Measure.{MeasureOf, Fits};
+ghost use Rattle.green.specs.Measure.{MeasureOf, Summable};
 ghost use Rattle.green_new.specs.Over.{OverOf, Addable, Adds};
 use green::Counts;
 use green::record;
@@ -97,21 +97,15 @@ fn mixed(is_sharable: bool, h: u64, hash: u64) -> u64
     0
 }
 
-fn higher(a: usize, b: usize) -> usize
-    ensures { λ r. ⌜ r ≡ max a b ⌝ }
-{
-    if a < b { b } else { a }
-}
-
 // A child more.
 pub fn plus(a: Over, x: Measure) -> Over
-    requires { ⌜ Addable a (a .count) × (a .count ≤ 4096) × Fits x ⌝ }
+    requires { ⌜ Addable a (a .count) × (a .count ≤ 4096) × Summable x ⌝ }
     ensures { λ r. ⌜ Addable r (a .count + 1) × Adds a x r ⌝ }
 {
     let is_sharable = stays_sharable(a, x.hash);
     let m = a.measure;
     let hash = mixed(is_sharable, m.hash, x.hash);
-    let height = higher(m.height, x.height + 1);
+    let height = number::greater(m.height, x.height + 1);
     let len = m.len + x.len;
     let size = m.size + x.size;
     Over {

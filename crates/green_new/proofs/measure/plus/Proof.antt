@@ -11,11 +11,11 @@ stays-sharable-requires c κs = search needs
 mixed-requires : tie.Need-mixed-requires
 mixed-requires c κs = search needs
 
-add-higher : tie.Need-add-higher
-add-higher c = search needs
+add-greater : tie.Need-add-greater
+add-greater c = search needs
 
-higher-requires : tie.Need-higher-requires
-higher-requires c κs = search needs
+greater-requires : tie.Need-greater-requires
+greater-requires c κs = search needs
 
 add-len : tie.Need-add-len
 add-len c = search needs
@@ -27,7 +27,7 @@ add-t9 : tie.Need-add-t9
 add-t9 c = search needs
 
 returns : tie.Need-returns
-returns c = (addable-more (c .before .before .before .before .before .before .before .before .before .before .pre .0) (c .before .before .before .before .before .before .before .before .before .before .pre .2) refl (c .before .before .before .before .before .higher .ensures) refl refl, added refl (c .before .before .before .before .before .before .before .before .before .stays-sharable .ensures) (c .before .before .before .before .before .before .before .mixed .ensures) (c .before .before .before .before .before .higher .ensures) refl refl)
+returns c = (addable-more (c .before .before .before .before .before .before .before .before .before .before .pre .0) (c .before .before .before .before .before .before .before .before .before .before .pre .2) refl (c .before .before .before .before .before .greater .ensures) refl refl, added refl (c .before .before .before .before .before .before .before .before .before .stays-sharable .ensures) (c .before .before .before .before .before .before .before .mixed .ensures) (c .before .before .before .before .before .greater .ensures) refl refl)
 
 pub plus-spec : {M : Type 1} → statement M
 plus-spec =
@@ -35,8 +35,8 @@ plus-spec =
     (tie.spec
     stays-sharable-requires
     mixed-requires
-    add-higher
-    higher-requires
+    add-greater
+    greater-requires
     add-len
     add-size
     add-t9
