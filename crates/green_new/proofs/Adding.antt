@@ -1,50 +1,68 @@
 -- A node's measure child by child: one child more, and all of them. Assumes nothing.
-use Prim.Native.Nat.{ℕ, zero, suc, max, _+_, _*_, _≤_, _<_}
+use Prim.Native.Nat.{ℕ, max, _+_, _-_, _≤_, _<_}
 use native.Mathlib.Omega.{arith}
 use native.Mathlib.Numerals.{add-one}
 use native.Mathlib.Decide.{decLt}
 use mathlib.Core.Path.{_≡_, refl, sym, ap, _∙_}
 use mathlib.Core.List.{List, [], _∷_, _++_}
 use mathlib.Core.Bool.{Bool, true, false, cond, not, _&&_}
-use lib.ListN.{length, getD, length-append}
+use lib.ListN.{length, getD, take, length-append}
+use lib.Seq.{slice, take-suc, take-all, length-slice}
 use lib.Dec.{leb, ltb, eqb}
 use borrow.Author.Tests.{le-leb, lt-leb, lt-ltb, le-ltb, not-true, not-false}
 use Rattle.definitions.specs.Prelude.{all}
 use Rattle.definitions.specs.Tree.{Tree, Forest, nil, cons, token, node, count, textLen, textLens, size, sizes, height, heights}
 use Rattle.definitions.specs.Hash.{addWord, addWords, sharableOver, nodeHash, hash, hashes, sharable}
-use Rattle.definitions.specs.Entry.{Entry, treeAt, treesAt}
+use Rattle.definitions.specs.Entry.{Entry, entryAt, treeAt, treesAt}
 use Rattle.definitions.proofs.Laws.{hashes-length}
-use Rattle.definitions.proofs.Entries.{treesAt-count}
+use Rattle.green.specs.Store.{Store, entries}
 use Rattle.green.specs.Measure.{MeasureOf, Summable}
 use Rattle.green.specs.declared.record.Measure.{Measure}
-use Rattle.green_new.specs.Over.{snoc, firsts, treeIn, OverOf, Adds, Addable}
+use Rattle.green_new.specs.Over.{join, OverOf, Adds, AddsOne, Addable, RoomFor, Range}
 use Rattle.green_new.specs.declared.measure.Over.{Over}
+use Rattle.green.proofs.Lists.{slice-at}
 
--- one tree more
-pub snoc-count : (f : Forest) (t : Tree) → count (snoc f t) ≡ count f + 1
-unfolding snoc count
-snoc-count nil t = refl
-snoc-count (cons u f) t = omega (arith, snoc-count f t)
+-- two forests as one
+join-nil : (f : Forest) → join f nil ≡ f
+unfolding join
+join-nil nil = refl
+join-nil (cons t f) = ap (cons t) (join-nil f)
 
-pub snoc-len : (f : Forest) (t : Tree) → textLens (snoc f t) ≡ textLens f + textLen t
-unfolding snoc textLens
-snoc-len nil t = omega arith
-snoc-len (cons u f) t = omega (arith, snoc-len f t)
+pub join-assoc : (f g h : Forest) → join (join f g) h ≡ join f (join g h)
+unfolding join
+join-assoc nil g h = refl
+join-assoc (cons t f) g h = ap (cons t) (join-assoc f g h)
 
-pub snoc-size : (f : Forest) (t : Tree) → sizes (snoc f t) ≡ sizes f + size t
-unfolding snoc sizes
-snoc-size nil t = omega arith
-snoc-size (cons u f) t = omega (arith, snoc-size f t)
+pub join-count : (f g : Forest) → count (join f g) ≡ count f + count g
+unfolding join count
+join-count nil g = omega arith
+join-count (cons t f) g = omega (arith, join-count f g)
 
-pub snoc-height : (f : Forest) (t : Tree) → heights (snoc f t) ≡ max (heights f) (height t)
-unfolding snoc heights
-snoc-height nil t = omega arith
-snoc-height (cons u f) t = omega (arith, snoc-height f t)
+pub join-len : (f g : Forest) → textLens (join f g) ≡ textLens f + textLens g
+unfolding join textLens
+join-len nil g = omega arith
+join-len (cons t f) g = omega (arith, join-len f g)
 
-pub snoc-hashes : (f : Forest) (t : Tree) → hashes (snoc f t) ≡ hashes f ++ (hash t ∷ [])
-unfolding snoc hashes
-snoc-hashes nil t = refl
-snoc-hashes (cons u f) t = ap (λ hs. hash u ∷ hs) (snoc-hashes f t)
+pub join-size : (f g : Forest) → sizes (join f g) ≡ sizes f + sizes g
+unfolding join sizes
+join-size nil g = omega arith
+join-size (cons t f) g = omega (arith, join-size f g)
+
+pub join-height : (f g : Forest) → heights (join f g) ≡ max (heights f) (heights g)
+unfolding join heights
+join-height nil g = omega arith
+join-height (cons t f) g = omega (arith, join-height f g)
+
+join-hashes : (f g : Forest) → hashes (join f g) ≡ hashes f ++ hashes g
+unfolding join hashes
+join-hashes nil g = refl
+join-hashes (cons t f) g = ap (λ hs. hash t ∷ hs) (join-hashes f g)
+
+-- the elements of two lists of numbers
+pub trees-join : (es : List Entry) (ns ms : List ℕ) → treesAt es (ns ++ ms) ≡ join (treesAt es ns) (treesAt es ms)
+unfolding join treesAt
+trees-join es [] ms = refl
+trees-join es (n ∷ ns) ms = ap (cons (treeAt es n)) (trees-join es ns ms)
 
 -- one hash more
 words-more : (h : ℕ) (ws : List ℕ) (w : ℕ) → addWords h (ws ++ (w ∷ [])) ≡ addWord (addWords h ws) w
@@ -114,34 +132,40 @@ over-none e = record { count = refl; sharable = refl; measure = record { len = r
 module _ {a : Over} {x : Measure} {r : Over} (c : r .count ≡ a .count + 1) (s : r .«is_sharable» ≡ (a .«is_sharable» && (ltb (a .count) 3 && not (eqb (x .hash) 0))))
     (h : r .measure .hash ≡ cond (r .«is_sharable») (addWord (a .measure .hash) (x .hash)) 0) (g : r .measure .height ≡ max (a .measure .height) (x .height + 1))
     (l : r .measure .len ≡ a .measure .len + x .len) (z : r .measure .size ≡ a .measure .size + x .size) where
-  shared : (k : ℕ) (f : Forest) (t : Tree) → OverOf k f a → MeasureOf t x → r .«is_sharable» ≡ sharable (node k (snoc f t))
-  unfolding sharable
-  shared k f t o m = s ∙ rw (o .sharable, o .count, m .hash, snoc-hashes f t, sharable-more (hashes f) (hash t), hashes-length f)
+  module _ (t : Tree) (m : MeasureOf t x) (k : ℕ) (f : Forest) (o : OverOf k f a) where
+    all-hashes : hashes (join f (cons t nil)) ≡ hashes f ++ (hash t ∷ [])
+    unfolding hashes
+    all-hashes = join-hashes f (cons t nil)
 
-  lens : (k : ℕ) (f : Forest) (t : Tree) → OverOf k f a → MeasureOf t x → r .measure .len ≡ textLen (node k (snoc f t))
-  unfolding textLen
-  lens k f t o m = omega (arith, l, o .measure .len, m .len, snoc-len f t)
+    shared : r .«is_sharable» ≡ sharable (node k (join f (cons t nil)))
+    unfolding sharable
+    shared = s ∙ rw (o .sharable, o .count, m .hash, all-hashes, sharable-more (hashes f) (hash t), hashes-length f)
 
-  sized : (k : ℕ) (f : Forest) (t : Tree) → OverOf k f a → MeasureOf t x → r .measure .size ≡ size (node k (snoc f t))
-  unfolding size
-  sized k f t o m = omega (arith, z, o .measure .size, m .size, snoc-size f t)
+    lens : r .measure .len ≡ textLen (node k (join f (cons t nil)))
+    unfolding textLen textLens
+    lens = omega (arith, l, o .measure .len, m .len, join-len f (cons t nil))
 
-  high : (k : ℕ) (f : Forest) (t : Tree) → OverOf k f a → MeasureOf t x → r .measure .height ≡ height (node k (snoc f t))
-  unfolding height
-  high k f t o m = omega (arith, g, o .measure .height, m .height, snoc-height f t)
+    sized : r .measure .size ≡ size (node k (join f (cons t nil)))
+    unfolding size sizes
+    sized = omega (arith, z, o .measure .size, m .size, join-size f (cons t nil))
 
-  hashed : (k : ℕ) (f : Forest) (t : Tree) → OverOf k f a → MeasureOf t x → r .measure .hash ≡ hash (node k (snoc f t))
-  unfolding hash sharable
-  hashed k f t o m = h ∙ rw (shared k f t o m, o .measure .hash, m .hash, snoc-hashes f t) (sym (hash-more k (hashes f) (hash t)))
+    high : r .measure .height ≡ height (node k (join f (cons t nil)))
+    unfolding height heights
+    high = omega (arith, g, o .measure .height, m .height, join-height f (cons t nil))
 
-  pub added : Adds a x r
-  added = record {
-    adds = λ k f t o m. record {
-      count = omega (arith, c, o .count, snoc-count f t);
-      sharable = shared k f t o m;
-      measure = record { len = lens k f t o m; size = sized k f t o m; height = high k f t o m; hash = hashed k f t o m };
-    };
-  }
+    hashed : r .measure .hash ≡ hash (node k (join f (cons t nil)))
+    unfolding hash sharable
+    hashed = h ∙ rw (shared, o .measure .hash, m .hash, all-hashes) (sym (hash-more k (hashes f) (hash t)))
+
+    counted : r .count ≡ count (join f (cons t nil))
+    unfolding count
+    counted = omega (arith, c, o .count, join-count f (cons t nil))
+
+    grown : OverOf k (join f (cons t nil)) r
+    grown = record { count = counted; sharable = shared; measure = record { len = lens; size = sized; height = high; hash = hashed } }
+
+  pub added : AddsOne a x r
+  added = record { adds = λ t m. record { adds = λ k f o. grown t m k f o } }
 
 pub addable-none : {h : ℕ} → Addable (record { count = 0; «is_sharable» = true; measure = record { len = 0; size = 1; height = 1; hash = h } }) 0
 addable-none = record { count = refl; len = omega arith; size = omega arith; height = omega arith }
@@ -155,72 +179,76 @@ addable-more p q c g l z = record {
   height = omega (arith, g, p .height, q .height);
 }
 
--- the loops
-firsts-more : (f : Forest) (i : ℕ) → i < count f → firsts (suc i) f ≡ snoc (firsts i f) (treeIn f i)
-unfolding firsts snoc treeIn count
-firsts-more nil i l = absurd (omega arith)
-firsts-more (cons t f) zero l = refl
-firsts-more (cons t f) (suc i) l = ap (cons t) (firsts-more f i (omega arith))
+-- none more, and some more twice
+pub adds-none : (a : Over) → Adds a nil a
+adds-none a = record { adds = λ k f o. rw (join-nil f) o }
 
-firsts-all : (f : Forest) (i : ℕ) → count f ≤ i → firsts i f ≡ f
-unfolding firsts count
-firsts-all nil zero l = refl
-firsts-all nil (suc i) l = refl
-firsts-all (cons t f) zero l = absurd (omega arith)
-firsts-all (cons t f) (suc i) l = ap (cons t) (firsts-all f i (omega arith))
+pub adds-both : {a b r : Over} {g h : Forest} → Adds a g b → Adds b h r → Adds a (join g h) r
+adds-both {g = g} {h = h} p q = record { adds = λ k f o. rw (← join-assoc f g h) (q .adds k (join f g) (p .adds k f o)) }
 
-pub tree-at : (es : List Entry) (ns : List ℕ) (i : ℕ) → i < length ns → treeIn (treesAt es ns) i ≡ treeAt es (getD ns i 0)
-unfolding treesAt treeIn
-tree-at es [] i l = absurd (omega arith)
-tree-at es (n ∷ ns) zero l = refl
-tree-at es (n ∷ ns) (suc i) l = tree-at es ns i (omega arith)
+-- so many more may be added to what has few
+pub room-for : {a : Over} {n : ℕ} → Addable a n → (more : ℕ) → n + more ≤ 4096 → RoomFor a more
+room-for p more few = record {
+  so-far = record { count = refl; len = omega (arith, p .len, p .count); size = omega (arith, p .size, p .count); height = p .height };
+  few = omega (arith, p .count);
+}
 
-pub over-start : {k : ℕ} (f : Forest) {a : Over} → OverOf k nil a → OverOf k (firsts 0 f) a
-unfolding firsts
-over-start f o = o
+-- the loops: after i of the elements that numbers name
+pub record Adding (a₀ : Over) (es : List Entry) (ns : List ℕ) (a : Over) (i : ℕ) : Type 0 where
+  pub within : i ≤ length ns
+  pub room : Addable a (a₀ .count + i)
+  pub adds : Adds a₀ (treesAt es (take i ns)) a
 
-pub over-more : {k : ℕ} (f : Forest) {a : Over} {i : ℕ} → OverOf k (firsts i f) a → i < count f → {x : Measure} → MeasureOf (treeIn f i) x → {b : Over} → Adds a x b → OverOf k (firsts (i + 1) f) b
-over-more {k} f {i = i} o l m p = rw (add-one, firsts-more f i l) (p .adds k (firsts i f) (treeIn f i) o m)
+pub adding-none : {a : Over} {es : List Entry} {ns : List ℕ} {more : ℕ} → RoomFor a more → Adding a es ns a 0
+unfolding treesAt
+adding-none {a} r = let z : a .count + 0 ≡ a .count = omega arith in record { within = omega arith; room = rw z (r .so-far); adds = adds-none a }
 
-pub over-all : {k : ℕ} (f : Forest) {a : Over} {i : ℕ} → OverOf k (firsts i f) a → count f ≤ i → OverOf k f a
-over-all f {i = i} o l = rw (firsts-all f i l) at o
+module _ {a₀ : Over} {es : List Entry} {ns : List ℕ} {a : Over} {i : ℕ} (g : Adding a₀ es ns a i) where
+  pub adding-room : RoomFor a₀ (length ns) → i < length ns → {x : Measure} → Summable x → RoomFor a 1 × Summable x
+  adding-room r l q = (room-for (g .room) 1 (omega (arith, r .few)), q)
 
--- after i of its children, from a childless one
-pub record Adding (a₀ : Over) (f : Forest) (a : Over) (i : ℕ) : Type 0 where
-  pub within : i ≤ count f
-  pub room : Addable a i
-  pub over : (k : ℕ) → OverOf k nil a₀ → OverOf k (firsts i f) a
+  module _ (l : i < length ns) {n : ℕ} (e : n ≡ getD ns i 0) where
+    next : take (i + 1) ns ≡ take i ns ++ (n ∷ [])
+    next = rw (add-one, e) (take-suc ns i 0 l)
 
-pub adding-none : {a : Over} {f : Forest} → Addable a 0 → Adding a f a 0
-adding-none {f = f} r = record { within = omega arith; room = r; over = λ k o. over-start f o }
+    next-tree : treesAt es (take (i + 1) ns) ≡ join (treesAt es (take i ns)) (cons (treeAt es n) nil)
+    unfolding treesAt
+    next-tree = ap (treesAt es) next ∙ trees-join es (take i ns) (n ∷ [])
 
-module _ {a₀ : Over} {f : Forest} {a : Over} {i : ℕ} (g : Adding a₀ f a i) where
-  pub adding-room : count f ≤ 4096 → i < count f → {x : Measure} → Summable x → Addable a (a .count) × (a .count ≤ 4096) × Summable x
-  adding-room few l q = (
-    record { count = refl; len = omega (arith, g .room .len, g .room .count); size = omega (arith, g .room .size, g .room .count); height = g .room .height },
-    omega (arith, g .room .count),
-    q,
-  )
+    pub adding-more : {x : Measure} → MeasureOf (treeAt es n) x → {b : Over} → Addable b (a .count + 1) → AddsOne a x b → Adding a₀ es ns b (i + 1)
+    adding-more m {b} r p =
+        let z : a .count + 1 ≡ a₀ .count + (i + 1) = omega (arith, g .room .count) in
+        record {
+          within = omega arith;
+          room = rw z at r;
+          adds = rw next-tree (adds-both (g .adds) (p .adds (treeAt es n) m));
+        }
 
-  pub adding-more : i < count f → {x : Measure} → MeasureOf (treeIn f i) x → {b : Over} → Addable b (a .count + 1) → Adds a x b → Adding a₀ f b (i + 1)
-  adding-more l m r p = record { within = omega arith; room = rw (g .room .count) at r; over = λ k o. over-more f (g .over k o) l m p }
+  pub adding-all : length ns ≤ i → Addable a (a₀ .count + length ns) × Adds a₀ (treesAt es ns) a
+  adding-all l =
+      let z : i ≡ length ns = omega (arith, g .within) in
+      (rw (← z) (g .room), rw (take-all i ns l) at (g .adds))
 
-  pub adding-all : count f ≤ i → {k : ℕ} → OverOf k nil a₀ → OverOf k f a
-  adding-all l {k} o = over-all f (g .over k o) l
+-- the same of a range of a node's children
+module _ {s : Store} {n from to : ℕ} (g : Range s n from to) where
+  abbrev ns : List ℕ
+  ns = slice from to (entryAt (entries s) n .children)
 
--- the same over the elements that numbers name
-pub record AddingAt (a₀ : Over) (es : List Entry) (ns : List ℕ) (a : Over) (i : ℕ) : Type 0 where
-  pub adding : Adding a₀ (treesAt es ns) a i
+  long : length ns ≡ to - from
+  long = length-slice from to (entryAt (entries s) n .children) (g .within)
 
-pub numbers-none : {a : Over} {es : List Entry} {ns : List ℕ} → Addable a 0 → AddingAt a es ns a 0
-numbers-none r = record { adding = adding-none r }
+  module _ {a₀ a : Over} {i : ℕ} (p : Adding a₀ (entries s) ns a i) where
+    pub range-room : RoomFor a₀ (to - from) → i < to - from → {x : Measure} → Summable x → RoomFor a 1 × Summable x
+    range-room r l q = adding-room p (rw long r) (omega (arith, long)) q
 
-module _ {a₀ : Over} {es : List Entry} {ns : List ℕ} {a : Over} {i : ℕ} (g : AddingAt a₀ es ns a i) where
-  pub numbers-room : length ns ≤ 4096 → i < length ns → {x : Measure} → Summable x → Addable a (a .count) × (a .count ≤ 4096) × Summable x
-  numbers-room few l q = adding-room (g .adding) (omega (arith, treesAt-count es ns)) (omega (arith, treesAt-count es ns)) q
+    pub range-more : i < to - from → {c : ℕ} → c ≡ getD (entryAt (entries s) n .children) (from + i) 0 → {x : Measure} → MeasureOf (treeAt (entries s) c) x
+        → {b : Over} → Addable b (a .count + 1) → AddsOne a x b → Adding a₀ (entries s) ns b (i + 1)
+    range-more l e m r q = adding-more p (omega (arith, long)) (e ∙ sym (slice-at (entryAt (entries s) n .children) from to i 0 (omega arith))) m r q
 
-  pub numbers-more : i < length ns → {n : ℕ} → n ≡ getD ns i 0 → {x : Measure} → MeasureOf (treeAt es n) x → {b : Over} → Addable b (a .count + 1) → Adds a x b → AddingAt a₀ es ns b (i + 1)
-  numbers-more l e m r p = record { adding = adding-more (g .adding) (omega (arith, treesAt-count es ns)) (rw (tree-at es ns i l) (rw e at m)) r p }
+    pub range-all : to - from ≤ i → Addable a (a₀ .count + (to - from)) × Adds a₀ (treesAt (entries s) ns) a
+    range-all l = rw long at (adding-all p (omega (arith, long)))
 
-  pub numbers-all : length ns ≤ i → {k : ℕ} → OverOf k nil a₀ → OverOf k (treesAt es ns) a
-  numbers-all l o = adding-all (g .adding) (omega (arith, treesAt-count es ns)) o
+-- over_children: all are added to a childless node
+pub over-all : {k : ℕ} {a r : Over} {f : Forest} → OverOf k nil a → Adds a f r → OverOf k f r
+unfolding join
+over-all {k} o p = p .adds k nil o

@@ -1,18 +1,21 @@
-// For the crates above: the measure of an element that is not there yet. A node's is put together child by child.
+// For the crates above: the measure of an element that is not there yet. A node's is put together child by child, or comes from what it was before some of its children were exchanged.
 
 ghost use mathlib.Core.Path.{_≡_};
-ghost use mathlib.Core.Bool.{not, _&&_, cond};
-ghost use Prim.Native.Nat.{_+_, _≤_};
+ghost use mathlib.Core.Bool.{not, _&&_, _||_, cond};
+ghost use Prim.Native.Nat.{_+_, _-_, _≤_};
 ghost use lib.ListN.{length};
-ghost use lib.Dec.{eqb, ltb};
+ghost use lib.Seq.{slice};
+ghost use lib.Dec.{eqb, leb, ltb};
 ghost use Rattle.definitions.specs.Tree.{token, nil};
 ghost use Rattle.definitions.specs.Hash.{addWord, tokenHash};
-ghost use Rattle.definitions.specs.Entry.{treesAt};
+ghost use Rattle.definitions.specs.Entry.{entryAt, treesAt};
 ghost use Rattle.green.specs.Store.{here, entered, entries};
 ghost use Rattle.green.specs.Valid.{AllBelow, Valid};
 ghost use Rattle.green.specs.Measure.{MeasureOf, Summable};
-ghost use Rattle.green_new.specs.Over.{OverOf, Addable, Adds};
+ghost use Rattle.green_new.specs.Over.{OverOf, Addable, RoomFor, Adds, AddsOne, Range};
+ghost use Rattle.green_new.specs.Exchange.{Exchangeable, AfterExchange};
 use green::Counts;
+use green::node;
 use green::record;
 use green::record::Measure;
 use utility_types::SyntaxKind;
@@ -99,8 +102,8 @@ fn mixed(is_sharable: bool, h: u64, hash: u64) -> u64
 
 // A child more.
 pub fn plus(a: Over, x: Measure) -> Over
-    requires { ⌜ Addable a (a .count) × (a .count ≤ 4096) × Summable x ⌝ }
-    ensures { λ r. ⌜ Addable r (a .count + 1) × Adds a x r ⌝ }
+    requires { ⌜ RoomFor a 1 × Summable x ⌝ }
+    ensures { λ r. ⌜ Addable r (a .count + 1) × AddsOne a x r ⌝ }
 {
     let is_sharable = stays_sharable(a, x.hash);
     let m = a.measure;
@@ -120,6 +123,55 @@ pub fn plus(a: Over, x: Measure) -> Over
     }
 }
 
+// The elements of these numbers more, in order.
+pub fn plus_numbers(
+    records: &[u64],
+    children: &[u64],
+    text: &[u8],
+    used: &Counts,
+    a: Over,
+    numbers: &[u32],
+) -> Over
+    requires { ⌜ Valid (here records children text used) × AllBelow (length (entries (here records children text used))) (now numbers) ⌝ }
+    requires { ⌜ RoomFor a (length (now numbers)) ⌝ }
+    ensures { λ r. ⌜ Addable r (a .count + length (now (numbers .entry))) × Adds a (treesAt (entries (entered records children text used)) (now (numbers .entry))) r ⌝ }
+{
+    let mut over = a;
+    let mut i = 0;
+    while i < numbers.len() {
+        let x = record::measure_of(records, children, text, used, number::widen(numbers[i]));
+        over = plus(over, x);
+        i += 1;
+    }
+    over
+}
+
+// The children `from..to` of node `n` more.
+pub fn plus_children(
+    records: &[u64],
+    children: &[u64],
+    text: &[u8],
+    used: &Counts,
+    a: Over,
+    n: usize,
+    from: usize,
+    to: usize,
+) -> Over
+    requires { ⌜ Range (here records children text used) n from to × RoomFor a (to - from) ⌝ }
+    ensures { λ r. ⌜ Addable r (a .count + (to - from)) × Adds a (treesAt (entries (entered records children text used)) (slice from to (entryAt (entries (entered records children text used)) n .children))) r ⌝ }
+{
+    let count = to - from;
+    let mut over = a;
+    let mut i = 0;
+    while i < count {
+        let child = node::nth_child(records, children, text, used, n, from + i);
+        let x = record::measure_of(records, children, text, used, child.number);
+        over = plus(over, x);
+        i += 1;
+    }
+    over
+}
+
 // A node over these children.
 pub fn over_children(
     records: &[u64],
@@ -133,12 +185,27 @@ pub fn over_children(
     requires { ⌜ AllBelow (length (entries (here records children text used))) (now numbers) × (length (now numbers) ≤ 4096) ⌝ }
     ensures { λ r. ⌜ OverOf (kind .0) (treesAt (entries (entered records children text used)) (now (numbers .entry))) r ⌝ }
 {
-    let mut over = childless(kind);
-    let mut i = 0;
-    while i < numbers.len() {
-        let x = record::measure_of(records, children, text, used, number::widen(numbers[i]));
-        over = plus(over, x);
-        i += 1;
+    plus_numbers(records, children, text, used, childless(kind), numbers)
+}
+
+// Whether the highest child after an exchange is known without those that stay: one that comes is as high as any was, or none that goes was the highest.
+pub fn is_height_known(own: Measure, gone: Measure, come: Measure) -> bool
+    ensures { λ r. ⌜ r ≡ (leb (own .height) (come .height) || ltb (gone .height) (own .height)) ⌝ }
+{
+    own.height <= come.height || gone.height < own.height
+}
+
+// The measure of a node after an exchange that leaves it more than three children, by what it was and by nodes of its kind over the children that go and
+// over those that come. So many children are never shared, and the hash is 0.
+pub fn exchanged(own: Measure, gone: Measure, come: Measure) -> Measure
+    requires { ⌜ Exchangeable own gone come ⌝ }
+    ensures { λ r. ⌜ AfterExchange own gone come r ⌝ }
+{
+    let height = number::greater(own.height, come.height);
+    Measure {
+        len: own.len - gone.len + come.len,
+        size: own.size - gone.size + come.size,
+        height,
+        hash: 0,
     }
-    over
 }

@@ -27,7 +27,7 @@ add-t9 : tie.Need-add-t9
 add-t9 c = search needs
 
 returns : tie.Need-returns
-returns c = (addable-more (c .before .before .before .before .before .before .before .before .before .before .pre .0) (c .before .before .before .before .before .before .before .before .before .before .pre .2) refl (c .before .before .before .before .before .greater .ensures) refl refl, added refl (c .before .before .before .before .before .before .before .before .before .stays-sharable .ensures) (c .before .before .before .before .before .before .before .mixed .ensures) (c .before .before .before .before .before .greater .ensures) refl refl)
+returns c = (addable-more (c .before .before .before .before .before .before .before .before .before .before .pre .0 .so-far) (c .before .before .before .before .before .before .before .before .before .before .pre .1) refl (c .before .before .before .before .before .greater .ensures) refl refl, added refl (c .before .before .before .before .before .before .before .before .before .stays-sharable .ensures) (c .before .before .before .before .before .before .before .mixed .ensures) (c .before .before .before .before .before .greater .ensures) refl refl)
 
 pub plus-spec : {M : Type 1} → statement M
 plus-spec =
