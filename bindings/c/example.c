@@ -7,7 +7,7 @@
 #include <stdio.h>
 #include <string.h>
 
-enum { BACKSIGHT = 1, KEYWORD = 2, BLANK = 3, POINT = 4, NEWLINE = 5 };
+enum { BACKSIGHT = 1, KEYWORD = 2, BLANK = 3, POINT = 4 };
 
 /* The store: room for 64 records, 64 child places and 256 bytes of text. */
 static uint64_t records[64 * 8];
@@ -108,22 +108,6 @@ static void token_at(size_t root, size_t offset)
         printf("at %zu: %zu to %zu\n", offset, words[0], words[1]);
 }
 
-/* The line of an offset, and where that line starts. */
-static void line_of(size_t root, size_t offset)
-{
-    size_t operands[8] = {offset}, words[8];
-    uint32_t path[64] = {0}, other[64] = {0};
-    size_t outcome = notes_query(STORE, root, path, other, 0, NOTES_LINE_OF, operands, words);
-    if (outcome > NOTES_REFUSED) {
-        printf("line of %zu: refused %zu\n", offset, outcome - NOTES_REFUSED);
-        return;
-    }
-    size_t line = words[0];
-    operands[0] = line;
-    notes_query(STORE, root, path, other, 0, NOTES_LINE_START, operands, words);
-    printf("line of %zu: %zu, which starts at %zu\n", offset, line, words[0]);
-}
-
 int main(void)
 {
     static uint32_t yields[4096];
@@ -160,24 +144,5 @@ int main(void)
     tokens(words[0]);
     chunks(words[0], 0, 6);
     chunks(root, 0, 5);
-
-    /* Two lines of notes; behind the last newline there is a third, empty one. */
-    struct sheet lines = {0};
-    event(&lines, 2, BACKSIGHT, 0);
-    token(&lines, KEYWORD, "BS");
-    token(&lines, NEWLINE, "\n");
-    token(&lines, KEYWORD, "FS");
-    token(&lines, NEWLINE, "\n");
-    event(&lines, 3, 0, 0);
-    if (run(&lines, yields, words) != NOTES_NUMBER)
-        return 1;
-    root = words[0];
-    line_of(root, 2);
-    line_of(root, 3);
-    line_of(root, 6);
-    line_of(root, 7);
-    if (notes_element(STORE, root, words) != NOTES_NODE)
-        return 1;
-    printf("%zu newlines in %zu bytes\n", words[5], words[1]);
     return 0;
 }

@@ -74,14 +74,13 @@ size_t notes_edit(NOTES_STORE_EDIT, size_t code, size_t number, size_t from, siz
 
 /* ---- The store's records. */
 
-/* What a record keeps: NOTES_TOKEN or NOTES_NODE; words: kind, length, size, height, children, newlines. Refused by 4. */
+/* What a record keeps: NOTES_TOKEN or NOTES_NODE; words: kind, length, size, height, children. Refused by 4. */
 size_t notes_element(NOTES_STORE, size_t number, size_t words[8]);
 /* Child `index` of a node: NOTES_NUMBER; words: its number, its offset in the node. Refused by 4, 5. */
 size_t notes_child(NOTES_STORE, size_t number, size_t index, size_t words[8]);
 
-/* ---- Any question, by its code: of the element, or of a text of the node, that `path` names; or of the whole text of the node `root`, for which no path is
- * looked at. `other` is the second path of two elements or texts, or takes the right one of two tokens. The answer's indexes are written to `path`.
- * Operands that a question does not use are not looked at. */
+/* ---- Any question, by its code: of the element, or of a text of the node, that `path` names. `other` is the second path of two elements or texts, or
+ * takes the right one of two tokens. The answer's indexes are written to `path`. Operands that a question does not use are not looked at. */
 enum {
     NOTES_HERE = 0, NOTES_PARENT = 1,
     NOTES_FIRST_CHILD = 2, NOTES_LAST_CHILD = 3, NOTES_FIRST_CHILD_OR_TOKEN = 4, NOTES_LAST_CHILD_OR_TOKEN = 5,
@@ -98,9 +97,7 @@ enum {
     NOTES_CONTAINS_CHAR = 22,           /* start, end, character: YES or NO */
     NOTES_FIND_CHAR = 23,               /* start, end, character: NUMBER or NONE */
     NOTES_CHAR_AT = 24,                 /* start, end, offset: NUMBER or NONE */
-    NOTES_EQUAL_TEXT = 25,              /* start, end, the other root, depth, start, end: YES or NO */
-    NOTES_LINE_OF = 26,                 /* offset: NUMBER, 1 and the newlines (byte 10) before it, up to 4,294,967,296; refused by 5 past the text's end */
-    NOTES_LINE_START = 27               /* line: NUMBER, the offset behind the newline before it, 0 of line 1; refused by 5 of line 0 and past the last */
+    NOTES_EQUAL_TEXT = 25               /* start, end, the other root, depth, start, end: YES or NO */
 };
 size_t notes_query(NOTES_STORE, size_t root, uint32_t path[64], uint32_t other[64], size_t depth, size_t code,
                    const size_t operands[8], size_t words[8]);

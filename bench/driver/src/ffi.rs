@@ -21,8 +21,6 @@ pub const HERE: usize = 0;
 pub const WHERE_IS: usize = 18;
 pub const FIND_CHAR: usize = 23;
 pub const EQUAL_TEXT: usize = 25;
-pub const LINE_OF: usize = 26;
-pub const LINE_START: usize = 27;
 
 /// Calls that read the store, with what each takes beside it.
 macro_rules! reading {

@@ -42,8 +42,6 @@ fn write(folder: &Path, samples: usize) {
         "### Through the Rust crate\n\nOne program text over the handles of both, which a reader in Rust writes.\n"
             .to_string(),
         tables::ratios(&rows::HANDLES, &bench.rows, &TREES),
-        "### Lines\n\nrowan has none: in its column, what its user would write over rowan's text, by the row.\n".to_string(),
-        tables::ratios(&rows::LINES, &bench.rows, &TREES),
         "### Growth\n\nNanoseconds for a unit, on survey jobs of at most so many events.\n".to_string(),
         tables::growth(&grown(trees::survey, rows_of_case, samples).rows, &SIZES.map(|it| it.0)),
         "The builds of one wide node of so many events, less two, half of them alike:\n".to_string(),

@@ -126,12 +126,11 @@ fn survey_line(random: &mut Random) -> Vec<Event> {
     line
 }
 
-/// One node over `tokens` tokens, every second one a blank, but every sixteenth a newline.
+/// One node over `tokens` tokens, every second one a blank.
 pub fn wide(tokens: usize) -> Sheet {
     let mut random = Random::new(3);
-    let token = |at| match at % 16 {
-        15 => Event::Token(14, "\n".to_string()),
-        it if it % 2 == 1 => Event::Token(11, " ".to_string()),
+    let token = |at| match at % 2 {
+        1 => Event::Token(11, " ".to_string()),
         _ => Event::Token(12, random.below(3000).to_string()),
     };
     under_root((0..tokens).map(token).collect())

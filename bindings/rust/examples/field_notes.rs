@@ -1,5 +1,4 @@
-//! Field notes as a tree: parses them, prints their outline, corrects one angle, and shows that no other line moved. Lines that are no notes are named
-//! on standard error.
+//! Field notes as a tree: parses them, prints their outline, corrects one angle, and shows that no other line moved.
 //!
 //! usage: field_notes NOTES FOLDER [POINT ANGLE]
 //!
@@ -11,7 +10,7 @@ mod notes;
 use std::{env, error::Error, fs, path::Path, process::ExitCode};
 
 use notes::Kind;
-use notes_tree::{GreenNode, GreenToken, Refusal, Store, SyntaxNode, SyntaxPath, SyntaxToken, WalkEvent};
+use notes_tree::{GreenNode, GreenToken, Store, SyntaxNode, SyntaxPath, SyntaxToken, WalkEvent};
 
 fn main() -> ExitCode {
     let words: Vec<String> = env::args().skip(1).collect();
@@ -42,7 +41,6 @@ fn run(notes: &str, folder: &str, point: &str, angle: &str) -> Result<(), Box<dy
     assert_eq!(SyntaxNode::new_root(&store, job)?.text(), notes.as_str(), "every byte is kept");
     println!("{} events, {} bytes of text, {} records\n", sheet.events(), notes.len(), store.records());
     outline(&SyntaxNode::new_root(&store, job)?)?;
-    name_unknown(&SyntaxNode::new_root(&store, job)?)?;
 
     let Some(path) = angle_to(&SyntaxNode::new_root(&store, job)?, point) else {
         println!("\nno angle to {point}");
@@ -52,7 +50,7 @@ fn run(notes: &str, folder: &str, point: &str, angle: &str) -> Result<(), Box<dy
     let number = GreenToken::new(&mut store, Kind::Number.into(), angle)?;
     let corrected = path.replace_with(&mut store, number)?;
     println!("\nthe angle to {point} becomes {angle}: {} new records\n", store.records() - records);
-    show_lines(&store, job, corrected, &path)?;
+    show_lines(&store, job, corrected)?;
     show_tokens(&store, job, corrected, &path)
 }
 
@@ -81,15 +79,6 @@ fn outline(job: &SyntaxNode) -> Result<(), Box<dyn Error>> {
     Ok(())
 }
 
-/// Each line that is none of those that the parser knows.
-fn name_unknown(job: &SyntaxNode) -> Result<(), Refusal> {
-    for node in job.descendants().filter(|node| Kind::of(node.kind()) == Kind::Other) {
-        let line = job.line_of(node.text_range().start())?;
-        eprintln!("field_notes: line {line} is not known: {}", node.text().to_string().trim_end());
-    }
-    Ok(())
-}
-
 /// The path of the number of the first angle to a point.
 fn angle_to(job: &SyntaxNode, point: &str) -> Option<SyntaxPath> {
     let is_keyword = |node: &SyntaxNode, word: &str| node.first_token().is_some_and(|token| token.text() == word);
@@ -103,23 +92,17 @@ fn angle_to(job: &SyntaxNode, point: &str) -> Option<SyntaxPath> {
     Some(angle.last_token()?.path())
 }
 
-/// The line of the corrected angle, as it was and is, and how many others are as they were.
-fn show_lines(store: &Store, job: GreenNode, corrected: GreenNode, path: &SyntaxPath) -> Result<(), Box<dyn Error>> {
-    let (before, after) = (SyntaxNode::new_root(store, job)?, SyntaxNode::new_root(store, corrected)?);
-    let number = before.line_of(path.element(store)?.text_range().start())?;
-    let (was, is) = (line(&before, number)?, line(&after, number)?);
-    println!("line {number:>3} was {was}\n         is  {is}");
-    let (before, after) = (before.text().to_string(), after.text().to_string());
-    let alike = before.lines().zip(after.lines()).filter(|(before, after)| before == after).count();
+/// The lines that differ, and how many do not.
+fn show_lines(store: &Store, job: GreenNode, corrected: GreenNode) -> Result<(), Box<dyn Error>> {
+    let text = |green| SyntaxNode::new_root(store, green).map(|root| root.text().to_string());
+    let (before, after) = (text(job)?, text(corrected)?);
+    let lines: Vec<(&str, &str)> = before.lines().zip(after.lines()).collect();
+    for (number, (before, after)) in lines.iter().enumerate().filter(|(_, (before, after))| before != after) {
+        println!("line {:>3} was {before}\n         is  {after}", number + 1);
+    }
+    let alike = lines.iter().filter(|(before, after)| before == after).count();
     println!("{alike} of {} lines are as they were", before.lines().count());
     Ok(())
-}
-
-/// A line's text, without what ends it.
-fn line(job: &SyntaxNode, number: u64) -> Result<String, Refusal> {
-    let (start, text) = (job.line_start(number)?, job.text());
-    let end = job.line_start(number + 1).unwrap_or(text.len());
-    Ok(text.slice(start..end)?.to_string().trim_end().to_string())
 }
 
 /// Every token but the corrected one has its kind, text and child indexes; those after it have moved by the difference.
@@ -127,7 +110,7 @@ fn show_tokens(store: &Store, job: GreenNode, corrected: GreenNode, path: &Synta
     let range = |root| path.in_tree(root).element(store).map(|element| element.text_range());
     let (old, new) = (range(job)?, range(corrected)?);
     let moved = i64::from(new.end()) - i64::from(old.end());
-    let tokens = |root| -> Result<Vec<SyntaxToken>, Refusal> {
+    let tokens = |root| -> Result<Vec<SyntaxToken>, notes_tree::Refusal> {
         Ok(SyntaxNode::new_root(store, root)?.descendants_with_tokens().filter_map(|it| it.into_token()).collect())
     };
     let (mut before, mut after) = (0, 0);

@@ -239,7 +239,7 @@ impl<'b> Places<'b> {
         judged(outcome).map(|_| words[0] as u32)
     }
 
-    /// Token or node; words: kind, length, size, height, children, newlines.
+    /// Token or node; words: kind, length, size, height, children.
     pub fn element(&self, number: u32, words: &mut Words) -> Result<usize, Refusal> {
         // SAFETY: the places are the store's own; words has the length that the header says.
         judged(unsafe { read!(self, notes_element(number as usize, words.as_mut_ptr())) })
@@ -276,14 +276,6 @@ impl<'b> Places<'b> {
                 )
             )
         })
-    }
-
-    /// The number that a question of a root's whole text answers, by the question's code.
-    pub fn of_root(&self, code: usize, root: u32, operand: usize) -> Result<usize, Refusal> {
-        let mut words = Words::default();
-        let operands = [operand, 0, 0, 0, 0, 0, 0, 0];
-        self.query(code, root, (&mut [0; 64], &mut [0; 64]), 0, operands, &mut words)?;
-        Ok(words[0])
     }
 
     questions! {

@@ -24,8 +24,6 @@ pub const CONTAINS_CHAR: usize = 22;
 pub const FIND_CHAR: usize = 23;
 pub const CHAR_AT: usize = 24;
 pub const EQUAL_TEXT: usize = 25;
-pub const LINE_OF: usize = 26;
-pub const LINE_START: usize = 27;
 
 /// Functions that read the store: its four places come first.
 macro_rules! reading {

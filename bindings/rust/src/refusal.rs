@@ -15,7 +15,7 @@ pub enum Refusal {
     Text = 3,
     /// 4: no such element in this store, or a token where a node is wanted, or a node where a token is.
     NoSuchElement = 4,
-    /// 5: an offset, a range, a child range or a line lies outside, or a range starts after its end.
+    /// 5: an offset, a range or a child range lies outside, or starts after its end.
     Outside = 5,
     /// 6: the replacement has another kind, or is a token for a node, or a node for a token.
     OtherKind = 6,
@@ -67,7 +67,7 @@ impl Refusal {
             Refusal::Event => "there is no such event or register",
             Refusal::Text => "a token's text has a byte over 127",
             Refusal::NoSuchElement => "there is no such element in this store, or it is a token for a node, or a node for a token",
-            Refusal::Outside => "an offset, a range, a child range or a line lies outside, or a range starts after its end",
+            Refusal::Outside => "an offset, a range or a child range lies outside, or starts after its end",
             Refusal::OtherKind => "the replacement has another kind, or is a token for a node, or a node for a token",
             Refusal::NothingOpen => "no node is open to be finished",
             Refusal::UnfitCheckpoint => "the checkpoint lies before the open node, or past what is waiting",

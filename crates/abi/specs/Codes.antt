@@ -49,8 +49,6 @@ questions m =
     ∷ question.Find (operand m 0) (operand m 1) (character (operand m 2))
     ∷ question.CharAt (operand m 0) (operand m 1) (operand m 2)
     ∷ question.EqualText (operand m 0) (operand m 1) (operand m 2) (operand m 3) (operand m 4) (operand m 5)
-    ∷ question.LineOf (operand m 0)
-    ∷ question.LineStart (operand m 0)
     ∷ []
 
 abbrev pub coded_question : ℕ → List ℕ → Option Question

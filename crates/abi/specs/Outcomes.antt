@@ -171,7 +171,7 @@ chunk_told (suc (suc o)) from to = told (100 + suc (suc o)) []
 
 -- what a record keeps of its element, and a node's child: its number, and its offset in the node
 abbrev pub summary_told : Summarized → Output
-summary_told (summarized.Of s) = told (element_kind s.is_node) (s.kind.0 ∷ s.len ∷ s.size ∷ s.height ∷ s.children ∷ s.newlines ∷ [])
+summary_told (summarized.Of s) = told (element_kind s.is_node) (s.kind.0 ∷ s.len ∷ s.size ∷ s.height ∷ s.children ∷ [])
 summary_told (summarized.Refused x) = refused_by x
 
 abbrev pub child_told : ChildAt → Output

@@ -218,7 +218,6 @@ pub fn put_summary(words: &mut Words, of: Summarized) -> usize
             words[2] = it.size;
             words[3] = it.height;
             words[4] = it.children;
-            words[5] = it.newlines;
             kind_of(it.is_node)
         }
         Summarized::Refused(why) => refused(why),

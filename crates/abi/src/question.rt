@@ -50,8 +50,6 @@ pub fn of_code(code: usize, m: &Words) -> Coded
         23 => Coded::Question(Question::Find(m[0], m[1], character(m[2]))),
         24 => Coded::Question(Question::CharAt(m[0], m[1], m[2])),
         25 => Coded::Question(Question::EqualText(m[0], m[1], m[2], m[3], m[4], m[5])),
-        26 => Coded::Question(Question::LineOf(m[0])),
-        27 => Coded::Question(Question::LineStart(m[0])),
         _ => Coded::Unknown,
     }
 }

@@ -15,18 +15,17 @@ use Rattle.definitions.specs.NodeCache.{push, matches, find_from, reuse, share}
 use Rattle.definitions.specs.Builder as builder
 use Rattle.definitions.specs.Run.{taken, finished, ends_at, follows, run_from, run}
 use Rattle.definitions.specs.Run as sheetRun
-use Rattle.definitions.specs.Query.{Answer, Query, RootQuestion, ask_root, answer, answer_at}
 use Rattle.definitions.proofs.Samples.{Case, All, done, ◌and◌, token_of, start, finish, run_on, entries_t}
 
--- the line of an offset, and the start of a line, as a store is asked for them
-abbrev line : List Entry → ℕ → ℕ → Result Answer
-line es n x = answer_at es n (Query.root (RootQuestion.line_of x))
+-- the line of an offset, and the start of a line, in the text of an element
+abbrev line : List Entry → ℕ → ℕ → Result ℕ
+line es n x = line_of (tree_at es n) x
 
-abbrev begins : List Entry → ℕ → ℕ → Result Answer
-begins es n k = answer_at es n (Query.root (RootQuestion.line_start k))
+abbrev begins : List Entry → ℕ → ℕ → Result ℕ
+begins es n k = line_start (tree_at es n) k
 
-abbrev number : ℕ → Result Answer
-number n = ok (Answer.number n)
+abbrev number : ℕ → Result ℕ
+number n = ok n
 
 -- the root 3 is over "A\n", which is 0, and over the node 2, which is over "B\r\n", which is 1
 abbrev two : List Entry
@@ -87,12 +86,8 @@ blank_lines =
     ∷ (begins blank_line 1 3 ≡ number 2)
     ∷ []
 
--- a token's number, and one that names no element, are refused by 4, before 5
-abbrev no_root : Case
-no_root = (line two 0 0 ≡ refused 4) ∷ (line two 0 9 ≡ refused 4) ∷ (line two 4 0 ≡ refused 4) ∷ (begins two 0 1 ≡ refused 4) ∷ (begins two 4 0 ≡ refused 4) ∷ []
-
 abbrev pub line_examples : List Case
-line_examples = counts ∷ lines ∷ starts ∷ one_line ∷ blank_lines ∷ no_root ∷ []
+line_examples = counts ∷ lines ∷ starts ∷ one_line ∷ blank_lines ∷ []
 
 pub line_examples_hold : All line_examples
 unfolding
@@ -103,5 +98,5 @@ unfolding
     push matches find_from reuse share
     builder.waits builder.token builder.opens builder.start_node builder.closes builder.finish_node builder.finish
     sheetRun.event taken finished ends_at follows run_from run
-    newlines_in newlines line_at after_newline start_at is_past_text is_no_line line_of line_start ask_root answer answer_at
-line_examples_hold = refl and refl and refl and refl and refl and refl and refl and refl and refl and refl and refl and refl and refl and refl and refl and refl and refl and refl and refl and refl and refl and refl and refl and refl and refl and refl and refl and refl and refl and refl and refl and refl and refl and refl and refl and done
+    newlines_in newlines line_at after_newline start_at is_past_text is_no_line line_of line_start
+line_examples_hold = refl and refl and refl and refl and refl and refl and refl and refl and refl and refl and refl and refl and refl and refl and refl and refl and refl and refl and refl and refl and refl and refl and refl and refl and refl and refl and refl and refl and refl and refl and done

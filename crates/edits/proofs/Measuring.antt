@@ -18,7 +18,7 @@ use Rattle.green_new.specs.Over.{join, OverOf, Adds, Addable, RoomFor, Range}
 use Rattle.green_new.specs.Exchange.{Exchangeable, AfterExchange}
 use Rattle.green_new.specs.declared.measure.Over.{Over}
 use Rattle.green_new.proofs.Adding.{trees_join, adds_both, room_for, over_all}
-use Rattle.green_new.proofs.Exchanging.{part_len, part_size, part_newlines, height_known}
+use Rattle.green_new.proofs.Exchanging.{part_len, part_size, height_known}
 use Rattle.edits.specs.Splice.{spliced, spliced_tree}
 use Rattle.edits.proofs.Lists.{splice_length}
 use Rattle.edits.proofs.Counting.{children_few}
@@ -117,13 +117,10 @@ module _ {s : Store} {n from to : ℕ} (g : Range s n from to) (ms : List ℕ) w
     exchangeable f z few r h = record {
       len = part_len front middle back own_measure (over_all start p).measure;
       size = part_size front middle back own_measure (over_all start p).measure;
-      newlines = part_newlines front middle back own_measure (over_all start p).measure;
       own_len = f.len;
       own_size = f.size;
-      own_newlines = f.newlines;
       come_len = omega (arith, r.len, z.count, new_few);
       come_size = omega (arith, r.size, z.count, new_few);
-      come_newlines = omega (arith, r.newlines, z.count, new_few);
       highest = height_known own.height comes.measure.height goes.measure.height h;
     }
 

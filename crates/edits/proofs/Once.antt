@@ -31,8 +31,8 @@ pub one_refusal : {call : Limits → Result Made} {r q : Refusal} → Refuses ca
 one_refusal a b = refused_injective (sym (a.always (within nothing)) ∙ b.always (within nothing))
 
 -- what is needed, part by part
-needs : (count len size height hash newlines : ℕ) → Needed
-needs count len size height hash newlines = record { count = count; measure = record { len = len; size = size; height = height; hash = hash; newlines = newlines } }
+needs : (count len size height hash : ℕ) → Needed
+needs count len size height hash = record { count = count; measure = record { len = len; size = size; height = height; hash = hash } }
 
 module _ {s : Store} {n : ℕ} {ns : List ℕ} {call : Limits → Result Made} {x : Needed} (a : Awaits s n ns call x) where
   pub one_need : {y : Needed} → Awaits s n ns call y → x ≡ y
@@ -40,8 +40,8 @@ module _ {s : Store} {n : ℕ} {ns : List ℕ} {call : Limits → Result Made} {
   one_need {y} b =
       let p = a.fresh.measure in
       let q = b.fresh.measure in
-      let e : needs x.count x.measure.len x.measure.size x.measure.height x.measure.hash x.measure.newlines ≡ needs y.count y.measure.len y.measure.size y.measure.height y.measure.hash y.measure.newlines =
-      cc (a.count, b.count, p.len, q.len, p.size, q.size, p.height, q.height, p.hash, q.hash, p.newlines, q.newlines) in
+      let e : needs x.count x.measure.len x.measure.size x.measure.height x.measure.hash ≡ needs y.count y.measure.len y.measure.size y.measure.height y.measure.hash =
+      cc (a.count, b.count, p.len, q.len, p.size, q.size, p.height, q.height, p.hash, q.hash) in
       e
 
   pub not_refused : {r : Refusal} → Refuses call r → ⊥

@@ -9,7 +9,7 @@ use lib.ListN.{length, get_or, take, drop}
 use lib.Seq.{split_at}
 use borrow.Author.Tests.{ltb-true, lt-ltb, le-ltb}
 use Rattle.definitions.specs.Prelude.{Result, ok, refused}
-use Rattle.definitions.specs.Tree.{Tree, token, node, kind, is_node, text, children_of, count, size, height}
+use Rattle.definitions.specs.Tree.{Tree, token, node, kind, is_node, text, children_of, count, text_len, size, height}
 use Rattle.definitions.specs.Hash.{hash}
 use Rattle.definitions.specs.Entry.{absent as absentEntry, entry_at, tree_at, child_places, text_bytes, own_bytes}
 use Rattle.definitions.specs.Refusal.{is_absent, is_no_node, is_range_outside}
@@ -25,8 +25,6 @@ use Rattle.green.specs.Layout.{own_count, first_of, own_text}
 use Rattle.green.specs.Store.{Store, entries}
 use Rattle.green.specs.Valid.{AllBelow, Valid, Known}
 use Rattle.green.specs.Answers.{Named, looked_up, element_of, fields_of, Place, place_of, child_of}
-use Rattle.green.specs.Measure.{MeasureOf}
-use Rattle.green.specs.declared.record.Measure.{Measure}
 use Rattle.green.specs.declared.element.Lookup.{Lookup}
 use Rattle.green.specs.declared.element.Lookup.TheVariants.{Element, Refused}
 use Rattle.green.proofs.Lists.{slice_at, part_slice}
@@ -212,6 +210,6 @@ module _ (s : Store) (n : ℕ) (h : Known s n) where
   pub token_children : {b : Bool} → b ≡ is_node it → b ≡ false → 0 ≡ count (children_of it)
   token_children p d = token_childless it (sym p ∙ d)
 
-  pub a_summary : {b : Bool} {k c : ℕ} {x : Measure} → b ≡ is_node it → k ≡ kind it → MeasureOf it x → c ≡ count (children_of it)
-      → ok (record { is_node = b; kind = k; len = x.len; size = x.size; height = x.height; hash = x.hash; newlines = x.newlines; children = c }) ≡ fields_of (entries s) n
-  a_summary p q m r = rw (present (entries s) n h.within, p, q, m.len, m.size, m.height, m.hash, m.newlines, r)
+  pub a_summary : {b : Bool} {k l z y w c : ℕ} → b ≡ is_node it → k ≡ kind it → l ≡ text_len it → z ≡ size it → y ≡ height it → w ≡ hash it → c ≡ count (children_of it)
+      → ok (record { is_node = b; kind = k; len = l; size = z; height = y; hash = w; children = c }) ≡ fields_of (entries s) n
+  a_summary p q r t u v x = rw (present (entries s) n h.within, p, q, r, t, u, v, x)

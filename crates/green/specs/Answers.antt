@@ -2,7 +2,6 @@
 use Rattle.std.specs.Prelude.{ℕ, suc, List, Bool, cond, length, get_or}
 use Rattle.definitions.specs.Prelude.{Result, ok, refused}
 use Rattle.definitions.specs.Tree.{Tree, kind, is_node, children_of, count, text_len, size, height, offset_of}
-use Rattle.definitions.specs.Lines.{newlines}
 use Rattle.definitions.specs.Hash.{hash}
 use Rattle.definitions.specs.Entry.{Entry, entry_at, tree_at}
 use Rattle.definitions.specs.Refusal.{is_absent, is_no_node, is_range_outside}
@@ -38,14 +37,13 @@ pub record RecordFields : Type 0 where
   pub size : ℕ
   pub height : ℕ
   pub hash : ℕ
-  pub newlines : ℕ
   pub children : ℕ
 
 abbrev pub record_fields : Tree → RecordFields
-record_fields t = record { is_node = is_node t; kind = kind t; len = text_len t; size = size t; height = height t; hash = hash t; newlines = newlines t; children = count (children_of t) }
+record_fields t = record { is_node = is_node t; kind = kind t; len = text_len t; size = size t; height = height t; hash = hash t; children = count (children_of t) }
 
 abbrev pub summary_of : Summary → RecordFields
-summary_of x = record { is_node = x.is_node; kind = x.kind.0; len = x.len; size = x.size; height = x.height; hash = x.hash; newlines = x.newlines; children = x.children }
+summary_of x = record { is_node = x.is_node; kind = x.kind.0; len = x.len; size = x.size; height = x.height; hash = x.hash; children = x.children }
 
 abbrev pub summarized : Summarized → Result RecordFields
 summarized (Of x) = ok (summary_of x)

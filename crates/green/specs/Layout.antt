@@ -2,10 +2,8 @@
 use Rattle.std.specs.Prelude.{ℕ, ◌+◌, ◌*◌, ◌^◌, cond, length, take}
 use mathlib.Core.List.{List, [], ◌∷◌, ◌++◌, flat_map}
 use Rattle.definitions.specs.Tree.{Tree, token, node, Forest, nil, cons, kind, is_node, children_of, text_len, size, height}
-use Rattle.definitions.specs.Lines.{newlines}
 use Rattle.definitions.specs.Hash.{hash}
 use Rattle.definitions.specs.Entry.{Entry, entry_at, child_places, text_bytes, own_bytes}
-use Rattle.green.specs.declared.record.Measure.{Measure}
 use Rattle.green.specs.declared.record.Header.{Header}
 
 -- 0 a token, 1 a node that an event made, 2 a node that an edit made
@@ -20,17 +18,14 @@ own_count e = cond (is_node e.tree) (length e.children) (own_bytes e.tree)
 unfoldable pub own_first : ℕ → ℕ → Entry → ℕ
 own_first c t e = cond (is_node e.tree) c t
 
--- a record: 8 words
+-- a record: 8 words, the last one spare
 abbrev pub record_words : ℕ → Entry → List ℕ
 record_words first e =
-    (kind e.tree + 2 ^ 16 * tag e) ∷ first ∷ own_count e ∷ text_len e.tree ∷ size e.tree ∷ height e.tree ∷ hash e.tree ∷ newlines e.tree ∷ []
+    (kind e.tree + 2 ^ 16 * tag e) ∷ first ∷ own_count e ∷ text_len e.tree ∷ size e.tree ∷ height e.tree ∷ hash e.tree ∷ 0 ∷ []
 
--- the words that are written of a measure, and of a new record
-abbrev pub measure_words : Measure → List ℕ
-measure_words x = x.len ∷ x.size ∷ x.height ∷ x.hash ∷ x.newlines ∷ []
-
+-- the words that are written of a new record
 abbrev pub header_words : Header → List ℕ
-header_words h = (h.kind.0 + 65536 * h.tag) ∷ h.first ∷ h.count ∷ measure_words h.measure
+header_words h = (h.kind.0 + 65536 * h.tag) ∷ h.first ∷ h.count ∷ h.measure.len ∷ h.measure.size ∷ h.measure.height ∷ h.measure.hash ∷ 0 ∷ []
 
 -- where the places of entry n start, and the words of its record
 abbrev pub first_of : List Entry → ℕ → ℕ

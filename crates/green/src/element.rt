@@ -36,7 +36,6 @@ pub struct Summary {
     pub size: usize,
     pub height: usize,
     pub hash: u64,
-    pub newlines: usize,
     pub children: usize,
 }
 
@@ -62,16 +61,13 @@ pub fn summarize(
     }
     let is_node = record::is_node(records, children, text, used, n);
     let count = record::count_of(records, children, text, used, n);
-    let kind = record::kind_of(records, children, text, used, n);
-    let x = record::measure_of(records, children, text, used, n);
     Summarized::Of(Summary {
         is_node,
-        kind,
-        len: x.len,
-        size: x.size,
-        height: x.height,
-        hash: x.hash,
-        newlines: x.newlines,
+        kind: record::kind_of(records, children, text, used, n),
+        len: record::text_len(records, children, text, used, n),
+        size: record::size_of(records, children, text, used, n),
+        height: record::height_of(records, children, text, used, n),
+        hash: record::hash_of(records, children, text, used, n),
         children: if is_node { count } else { 0 },
     })
 }

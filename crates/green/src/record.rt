@@ -4,7 +4,6 @@
 ghost use Rattle.std.specs.Prelude.{◌≡◌, ◌+◌, ◌*◌, ◌≤◌, ◌<◌, length, get_or};
 ghost use Rattle.std.proofs.lemmas.List.Edits.{sets};
 ghost use Rattle.definitions.specs.Tree.{kind, is_node, text_len, size, height};
-ghost use Rattle.definitions.specs.Lines.{newlines};
 ghost use Rattle.definitions.specs.Hash.{hash};
 ghost use Rattle.definitions.specs.Entry.{entry_at, tree_at};
 ghost use Rattle.green.specs.Layout.{tag, own_count, header_words, first_of, words_of};
@@ -95,14 +94,6 @@ pub fn hash_of(records: &[u64], children: &[u64], text: &[u8], used: &Counts, n:
     word(records, children, text, used, n, 6)
 }
 
-// How many newlines its text has.
-pub fn newlines_of(records: &[u64], children: &[u64], text: &[u8], used: &Counts, n: usize) -> usize
-    requires { Known (here records children text used) n }
-    ensures { result ≡ newlines (tree_at (entries (entered records children text used)) n) }
-{
-    word(records, children, text, used, n, 7) as usize
-}
-
 // What every record keeps of its element, for the node above it.
 #[derive(Drop)]
 pub struct Measure {
@@ -110,7 +101,6 @@ pub struct Measure {
     pub size: usize,
     pub height: usize,
     pub hash: u64,
-    pub newlines: usize,
 }
 
 // That of an element that is there.
@@ -129,7 +119,6 @@ pub fn measure_of(
         size: size_of(records, children, text, used, n),
         height: height_of(records, children, text, used, n),
         hash: hash_of(records, children, text, used, n),
-        newlines: newlines_of(records, children, text, used, n),
     }
 }
 
@@ -158,7 +147,7 @@ pub fn put_record(records: &mut [u64], n: usize, header: Header)
     records[at + 4] = measure.size as u64;
     records[at + 5] = measure.height as u64;
     records[at + 6] = measure.hash;
-    records[at + 7] = measure.newlines as u64;
+    records[at + 7] = 0;
 }
 
 // For the crates above: the length word of record `n`, while child places are being written.

@@ -11,12 +11,10 @@ use lib.Seq.{slice, take-suc, take_all, length-slice}
 use lib.Dec.{leb, ltb, eqb}
 use borrow.Author.Tests.{le-leb, lt-leb, lt-ltb, le-ltb, not-true, not-false}
 use Rattle.definitions.specs.Prelude.{all}
-use Rattle.definitions.specs.Tree.{Tree, Forest, nil, cons, token, node, count, text, texts, text_len, text_lens, size, sizes, height, heights}
-use Rattle.definitions.specs.Lines.{newlines_in, newlines, newlines_of}
+use Rattle.definitions.specs.Tree.{Tree, Forest, nil, cons, token, node, count, text_len, text_lens, size, sizes, height, heights}
 use Rattle.definitions.specs.Hash.{add_word, add_words, sharable_over, node_hash, hash, hashes, sharable}
 use Rattle.definitions.specs.Entry.{Entry, entry_at, tree_at, trees_at}
 use Rattle.definitions.proofs.Laws.{hashes_length}
-use Rattle.definitions.proofs.Lines.{node_newlines, child_newlines, no_newlines}
 use Rattle.green.specs.Store.{Store, entries}
 use Rattle.green.specs.Measure.{MeasureOf, Summable}
 use Rattle.green.specs.declared.record.Measure.{Measure}
@@ -49,11 +47,6 @@ pub join_size : (f g : Forest) → sizes (join f g) ≡ sizes f + sizes g
 unfolding join sizes
 join_size nil g = omega arith
 join_size (cons t f) g = omega (arith, join_size f g)
-
-pub join_newlines : (f g : Forest) → newlines_of (join f g) ≡ newlines_of f + newlines_of g
-unfolding join
-join_newlines nil g = omega (arith, no_newlines)
-join_newlines (cons t f) g = omega (arith, child_newlines t f, child_newlines t (join f g), join_newlines f g)
 
 pub join_height : (f g : Forest) → heights (join f g) ≡ max (heights f) (heights g)
 unfolding join heights
@@ -126,19 +119,19 @@ pub stay : (a b : Bool) (c : ℕ) → not a ≡ false → c < 3 → b ≡ (a && 
 stay a b c q l = rw (not-false a q, lt-ltb c 3 l)
 
 -- of_token, childless
-pub token_measure : (k : ℕ) (b : List ℕ) {x : Measure} → x.len ≡ length b → x.size ≡ 1 → x.height ≡ 0 → x.hash ≡ hash (token k b) → x.newlines ≡ newlines_in b → MeasureOf (token k b) x
-unfolding text_len size height newlines text
-token_measure k b p q r h n = record { len = p; size = q; height = r; hash = h; newlines = n }
+pub token_measure : (k : ℕ) (b : List ℕ) {x : Measure} → x.len ≡ length b → x.size ≡ 1 → x.height ≡ 0 → x.hash ≡ hash (token k b) → MeasureOf (token k b) x
+unfolding text_len size height
+token_measure k b p q r h = record { len = p; size = q; height = r; hash = h }
 
 pub over_none : {k h : ℕ} → h ≡ add_word 0 k
-    → OverOf k nil (record { count = 0; is_sharable = true; measure = record { len = 0; size = 1; height = 1; hash = h; newlines = 0 } })
-unfolding newlines newlines_in text texts count sharable sharable_over hash hashes node_hash add_words all text_len text_lens size sizes height heights
-over_none e = record { count = refl; sharable = refl; measure = record { len = refl; size = refl; height = refl; hash = e; newlines = refl } }
+    → OverOf k nil (record { count = 0; is_sharable = true; measure = record { len = 0; size = 1; height = 1; hash = h } })
+unfolding count sharable sharable_over hash hashes node_hash add_words all text_len text_lens size sizes height heights
+over_none e = record { count = refl; sharable = refl; measure = record { len = refl; size = refl; height = refl; hash = e } }
 
 -- plus
 module _ {a : Over} {x : Measure} {r : Over} (c : r.count ≡ a.count + 1) (s : r.is_sharable ≡ (a.is_sharable && (ltb a.count 3 && not (eqb x.hash 0))))
     (h : r.measure.hash ≡ cond r.is_sharable (add_word a.measure.hash x.hash) 0) (g : r.measure.height ≡ max a.measure.height (x.height + 1))
-    (l : r.measure.len ≡ a.measure.len + x.len) (z : r.measure.size ≡ a.measure.size + x.size) (n : r.measure.newlines ≡ a.measure.newlines + x.newlines) where
+    (l : r.measure.len ≡ a.measure.len + x.len) (z : r.measure.size ≡ a.measure.size + x.size) where
   module _ (t : Tree) (m : MeasureOf t x) (k : ℕ) (f : Forest) (o : OverOf k f a) where
     all_hashes : hashes (join f (cons t nil)) ≡ hashes f ++ (hash t ∷ [])
     unfolding hashes
@@ -160,10 +153,6 @@ module _ {a : Over} {x : Measure} {r : Over} (c : r.count ≡ a.count + 1) (s : 
     unfolding height heights
     high = omega (arith, g, o.measure.height, m.height, join_height f (cons t nil))
 
-    lined : r.measure.newlines ≡ newlines (node k (join f (cons t nil)))
-    lined =
-        omega (arith, n, o.measure.newlines, m.newlines, node_newlines k f, node_newlines k (join f (cons t nil)), join_newlines f (cons t nil), child_newlines t nil, no_newlines)
-
     hashed : r.measure.hash ≡ hash (node k (join f (cons t nil)))
     unfolding hash sharable
     hashed = h ∙ rw (shared, o.measure.hash, m.hash, all_hashes) (sym (hash_more k (hashes f) (hash t)))
@@ -173,22 +162,21 @@ module _ {a : Over} {x : Measure} {r : Over} (c : r.count ≡ a.count + 1) (s : 
     counted = omega (arith, c, o.count, join_count f (cons t nil))
 
     grown : OverOf k (join f (cons t nil)) r
-    grown = record { count = counted; sharable = shared; measure = record { len = lens; size = sized; height = high; hash = hashed; newlines = lined } }
+    grown = record { count = counted; sharable = shared; measure = record { len = lens; size = sized; height = high; hash = hashed } }
 
   pub added : AddsOne a x r
   added = record { adds = λ t m. record { adds = λ k f o. grown t m k f o } }
 
-pub addable_none : {h : ℕ} → Addable (record { count = 0; is_sharable = true; measure = record { len = 0; size = 1; height = 1; hash = h; newlines = 0 } }) 0
-addable_none = record { count = refl; len = omega arith; size = omega arith; height = omega arith; newlines = omega arith }
+pub addable_none : {h : ℕ} → Addable (record { count = 0; is_sharable = true; measure = record { len = 0; size = 1; height = 1; hash = h } }) 0
+addable_none = record { count = refl; len = omega arith; size = omega arith; height = omega arith }
 
 pub addable_more : {a : Over} {x : Measure} {r : Over} {n : ℕ} → Addable a n → Summable x → r.count ≡ a.count + 1 → r.measure.height ≡ max a.measure.height (x.height + 1)
-    → r.measure.len ≡ a.measure.len + x.len → r.measure.size ≡ a.measure.size + x.size → r.measure.newlines ≡ a.measure.newlines + x.newlines → Addable r (n + 1)
-addable_more p q c g l z n = record {
+    → r.measure.len ≡ a.measure.len + x.len → r.measure.size ≡ a.measure.size + x.size → Addable r (n + 1)
+addable_more p q c g l z = record {
   count = omega (arith, c, p.count);
   len = omega (arith, l, p.len, q.len);
   size = omega (arith, z, p.size, q.size);
   height = omega (arith, g, p.height, q.height);
-  newlines = omega (arith, n, p.newlines, q.newlines);
 }
 
 -- none more, and some more twice
@@ -201,7 +189,7 @@ adds_both {g = g} {h = h} p q = record { adds = λ k f o. rw (← join_assoc f g
 -- so many more may be added to what has few
 pub room_for : {a : Over} {n : ℕ} → Addable a n → (more : ℕ) → n + more ≤ 4096 → RoomFor a more
 room_for p more few = record {
-  so_far = record { count = refl; len = omega (arith, p.len, p.count); size = omega (arith, p.size, p.count); height = p.height; newlines = omega (arith, p.newlines, p.count) };
+  so_far = record { count = refl; len = omega (arith, p.len, p.count); size = omega (arith, p.size, p.count); height = p.height };
   few = omega (arith, p.count);
 }
 

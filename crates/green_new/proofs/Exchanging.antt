@@ -8,19 +8,17 @@ use lib.ListN.{length}
 use lib.Dec.{leb, ltb}
 use borrow.Author.Tests.{lt-leb, ltb-true}
 use Rattle.definitions.specs.Tree.{Forest, node, count, text_len, size, height, heights}
-use Rattle.definitions.specs.Lines.{newlines}
 use Rattle.definitions.specs.Hash.{sharable_over, node_hash, hash, hashes}
 use Rattle.definitions.proofs.Laws.{hashes_length}
-use Rattle.definitions.proofs.Lines.{node_newlines}
 use Rattle.green.specs.Measure.{MeasureOf}
 use Rattle.green.specs.declared.record.Measure.{Measure}
 use Rattle.green_new.specs.Over.{join}
 use Rattle.green_new.specs.Exchange.{Exchangeable, AfterExchange}
-use Rattle.green_new.proofs.Adding.{join_len, join_size, join_newlines, join_height}
+use Rattle.green_new.proofs.Adding.{join_len, join_size, join_height}
 
 -- exchanged
 module _ {own gone come : Measure} (p : Exchangeable own gone come) {r : Measure} (l : r.len ≡ own.len - gone.len + come.len) (z : r.size ≡ own.size - gone.size + come.size)
-    (g : r.height ≡ max own.height come.height) (h : r.hash ≡ 0) (n : r.newlines ≡ own.newlines - gone.newlines + come.newlines) where
+    (g : r.height ≡ max own.height come.height) (h : r.hash ≡ 0) where
   module _ (k : ℕ) (front old new back : Forest) (many : 3 < count (join front (join new back))) (o : MeasureOf (node k (join front (join old back))) own) (u : MeasureOf (node k old) gone)
       (v : MeasureOf (node k new) come) where
     new_len : r.len ≡ text_len (node k (join front (join new back)))
@@ -30,25 +28,6 @@ module _ {own gone come : Measure} (p : Exchangeable own gone come) {r : Measure
     new_size : r.size ≡ size (node k (join front (join new back)))
     unfolding size
     new_size = omega (arith, z, p.size, o.size, u.size, v.size, join_size front (join old back), join_size old back, join_size front (join new back), join_size new back)
-
-    new_newlines : r.newlines ≡ newlines (node k (join front (join new back)))
-    new_newlines =
-        omega (
-          arith,
-          n,
-          p.newlines,
-          o.newlines,
-          u.newlines,
-          v.newlines,
-          node_newlines k old,
-          node_newlines k new,
-          node_newlines k (join front (join old back)),
-          node_newlines k (join front (join new back)),
-          join_newlines front (join old back),
-          join_newlines old back,
-          join_newlines front (join new back),
-          join_newlines new back,
-        )
 
     highest : (a b c d x y : ℕ) → x ≡ max a (max b c) → y ≡ max a (max d c) → (d < x → b < x) → y ≡ max x d
     highest a b c d x y e f q = go (dec_lt d x)
@@ -76,7 +55,6 @@ module _ {own gone come : Measure} (p : Exchangeable own gone come) {r : Measure
       size = new_size k front old new back many o u v;
       height = new_height k front old new back many o u v;
       hash = no_hash k front old new back many o u v;
-      newlines = new_newlines k front old new back many o u v;
     };
   }
 
@@ -89,9 +67,6 @@ module _ {k : ℕ} (front old back : Forest) {own gone : Measure} (o : MeasureOf
   pub part_size : gone.size ≤ own.size
   unfolding size
   part_size = omega (arith, o.size, u.size, join_size front (join old back), join_size old back)
-
-  pub part_newlines : gone.newlines ≤ own.newlines
-  part_newlines = omega (arith, o.newlines, u.newlines, node_newlines k old, node_newlines k (join front (join old back)), join_newlines front (join old back), join_newlines old back)
 
 -- is_height_known
 pub height_known : (a b c : ℕ) → (leb a b || ltb c a) ≡ true → b < a → c < a

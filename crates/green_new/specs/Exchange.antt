@@ -10,13 +10,10 @@ use Rattle.green_new.specs.Over.{join}
 pub record Exchangeable (own gone come : Measure) : Type 0 where
   pub len : gone.len ≤ own.len
   pub size : gone.size ≤ own.size
-  pub newlines : gone.newlines ≤ own.newlines
   pub own_len : own.len ≤ 4294967295
   pub own_size : own.size ≤ 1048576
-  pub own_newlines : own.newlines ≤ 4294967295
   pub come_len : come.len ≤ 4096 * 4294967295
   pub come_size : come.size ≤ 1 + 4096 * 1048576
-  pub come_newlines : come.newlines ≤ 4096 * 4294967295
   pub highest : come.height < own.height → gone.height < own.height
 
 -- THE LAW of an exchange: r is the measure of the node with h in the place of g, if that leaves it more than three children

@@ -34,7 +34,6 @@ pub record Addable (x : Over) (n : ℕ) : Type 0 where
   pub len : x.measure.len ≤ n * 4294967295
   pub size : x.measure.size ≤ 1 + n * 1048576
   pub height : x.measure.height ≤ 65
-  pub newlines : x.measure.newlines ≤ n * 4294967295
 
 -- so many children more may be added to it
 pub record RoomFor (x : Over) (more : ℕ) : Type 0 where

@@ -3,7 +3,7 @@
 ghost use Rattle.std.specs.Prelude.{◌≡◌, not, ◌&&◌, ◌||◌, cond, ◌+◌, ◌-◌, ◌≤◌, length, eqb, leb, ltb};
 ghost use Rattle.std.proofs.Math.Seq.{slice};
 ghost use Rattle.definitions.specs.Tree.{token, nil};
-ghost use Rattle.definitions.specs.Hash.{add_word};
+ghost use Rattle.definitions.specs.Hash.{add_word, token_hash};
 ghost use Rattle.definitions.specs.Entry.{entry_at, trees_at};
 ghost use Rattle.green.specs.Store.{here, entered, entries};
 ghost use Rattle.green.specs.Valid.{AllBelow, Valid};
@@ -13,7 +13,7 @@ ghost use Rattle.green_new.specs.Exchange.{Exchangeable, AfterExchange};
 
 use green::record::Measure;
 use green::{Counts, node, record};
-use utility_types::{SyntaxKind, byte, number};
+use utility_types::{SyntaxKind, number};
 
 // A node over the children that were added: how many they are, whether it is sharable, and its measure.
 #[derive(Drop)]
@@ -30,25 +30,29 @@ fn kind_hash(kind: SyntaxKind) -> u64
     fx_hash::add_word(0, kind.0 as u64)
 }
 
-// A token. Its bytes are read once, for the hash and for the newlines; 255 ends the text, as it ends a string that Rust hashes.
+// 255 ends the text, as it ends a string that Rust hashes.
+fn token_hash(kind: SyntaxKind, text: &[u8]) -> u64
+    ensures { result ≡ token_hash kind.0 text.now }
+{
+    let mut h = kind_hash(kind);
+    let mut i = 0;
+    while i < text.len() {
+        h = fx_hash::add_word(h, number::wide(text[i]) as u64);
+        i += 1;
+    }
+    fx_hash::add_word(h, 255)
+}
+
+// A token.
 pub fn of_token(kind: SyntaxKind, src: &[u8]) -> Measure
     ensures { MeasureOf (token kind.0 src.now) result }
 {
-    let mut h = kind_hash(kind);
-    let mut newlines: usize = 0;
-    let mut i = 0;
-    while i < src.len() {
-        h = fx_hash::add_word(h, number::wide(src[i]) as u64);
-        newlines += byte::newline(src[i]);
-        i += 1;
-    }
-    let hash = fx_hash::add_word(h, 255);
+    let hash = token_hash(kind, src);
     Measure {
         len: src.len(),
         size: 1,
         height: 0,
         hash,
-        newlines,
     }
 }
 
@@ -65,7 +69,6 @@ pub fn childless(kind: SyntaxKind) -> Over
             size: 1,
             height: 1,
             hash,
-            newlines: 0,
         },
     }
 }
@@ -103,7 +106,6 @@ pub fn plus(a: Over, x: Measure) -> Over
     let height = number::greater(m.height, x.height + 1);
     let len = m.len + x.len;
     let size = m.size + x.size;
-    let newlines = m.newlines + x.newlines;
     Over {
         count: a.count + 1,
         is_sharable,
@@ -112,7 +114,6 @@ pub fn plus(a: Over, x: Measure) -> Over
             size,
             height,
             hash,
-            newlines,
         },
     }
 }
@@ -201,6 +202,5 @@ pub fn exchanged(own: Measure, gone: Measure, come: Measure) -> Measure
         size: own.size - gone.size + come.size,
         height,
         hash: 0,
-        newlines: own.newlines - gone.newlines + come.newlines,
     }
 }

@@ -9,7 +9,7 @@ use Rattle.definitions.specs.Prelude.{ok, refused}
 use Rattle.definitions.specs.Tree.{Tree, is_node}
 use Rattle.definitions.specs.Entry.{Entry, tree_at, is_node_at}
 use Rattle.definitions.specs.Refusal.{is_absent, is_no_node}
-use Rattle.definitions.specs.Query.{Question, TextQuestion, RootQuestion, at, of, root, answer, answer_at}
+use Rattle.definitions.specs.Query.{Question, TextQuestion, at, of, answer, answer_at}
 use Rattle.definitions.specs.Preorder as preorder
 use Rattle.definitions.specs.SyntaxText.{is_nowhere, is_astray, token_text, stepped, next_chunk}
 use Rattle.definitions.proofs.Laws.{and_left}
@@ -54,10 +54,6 @@ module _ (es : List Entry) (n n' : ℕ) (a : is_node_at es n ≡ true) (b : is_n
   unfolding asked_equal
   same_second o depth l start stop depth' l' start' stop' =
       tree_decides (λ there u. cond (ltb 64 depth || ltb 64 depth') (refused 4) (answer_at es o (of (text_at depth l start stop) (TextQuestion.equal u (text_at depth' l' start' stop')))))
-
-  pub same_root : (q : RootQuestion) → answer_at es n (root q) ≡ answer_at es n' (root q)
-  unfolding answer_at is_no_node
-  same_root q = tree_decides (λ there u. cond (not (there && is_node u)) (refused 4) (answer u (root q)))
 
   pub same_token_text : (depth : ℕ) (l : List ℕ) → token_text_asked es n depth l ≡ token_text_asked es n' depth l
   unfolding token_text_asked is_no_node

@@ -16,8 +16,6 @@ use Rattle.query.specs.declared.question.TextQuestion.{TextQuestion}
 use Rattle.query.specs.declared.question.TextQuestion.TheVariants as text
 use Rattle.query.specs.declared.question.PairQuestion.{PairQuestion}
 use Rattle.query.specs.declared.question.PairQuestion.TheVariants as pair
-use Rattle.query.specs.declared.question.RootQuestion.{RootQuestion}
-use Rattle.query.specs.declared.question.RootQuestion.TheVariants as root
 use Rattle.query.specs.declared.question.Kind.{Kind}
 use Rattle.query.specs.declared.question.Kind.TheVariants as kind
 use Rattle.query.specs.declared.reply.Reply.{Reply}
@@ -49,10 +47,6 @@ abbrev pub pair_in : PairQuestion → Question
 pair_in (pair.EqualText a b r d a' b') = question.EqualText a b r d a' b'
 pair_in (pair.SameElement r d) = question.SameElement r d
 
-abbrev pub root_in : RootQuestion → Question
-root_in (root.LineOf x) = question.LineOf x
-root_in (root.LineStart k) = question.LineStart k
-
 abbrev pub question_in : Kind → Question
 question_in (kind.Element q) = element_in q
 question_in (kind.TokenAtOffset x) = question.TokenAtOffset x
@@ -61,7 +55,6 @@ question_in (kind.Walk tokens) = question.Walk tokens
 question_in (kind.Text q) = text_in q
 question_in (kind.Pair q) = pair_in q
 question_in (kind.WhereIs n) = question.WhereIs n
-question_in (kind.Root q) = root_in q
 
 -- x answers q, whatever the second path is
 pub record ElementAnswered (s : Store) (root depth : ℕ) (l : List ℕ) (q : Question) (l' : List ℕ) (x : Answer) : Type 0 where
@@ -78,7 +71,3 @@ RepliesText s root depth path q x = (m : List ℕ) → Answered s root depth pat
 
 abbrev pub RepliesPair : {A B : Type 0} → Store → ℕ → ℕ → Both (Bor (List ℕ)) A → Both (Bor (List ℕ)) B → Question → Reply → Type 0
 RepliesPair s root depth path other q x = Answered s root depth path.entry.now other.entry.now q path.entry.now other.entry.now x
-
--- a reply to a question of a whole root, whatever the paths are
-abbrev pub RepliesRoot : Store → ℕ → Question → Reply → Type 0
-RepliesRoot s root q x = (depth : ℕ) (l m : List ℕ) → Answered s root depth l m q l m x

@@ -1,4 +1,4 @@
-// Calls 20 to 40, 50 to 52, 55 to 58, 70 and 71: what a call asks is read, put to the port, and its reply printed.
+// Calls 20 to 40, 50 to 52 and 55 to 58: what a call asks is read, put to the port, and its reply printed.
 
 ghost use Rattle.std.specs.Prelude.{◌<◌};
 ghost use Rattle.green.specs.Store.{here};
@@ -20,7 +20,6 @@ fn read(call: Call, slots: &mut Slots, path: &mut [u32; 64], other: &mut [u32; 6
     match op {
         20..=38 => path_calls::read(call, path, other),
         40 => path_calls::read_walk(call, slots, path),
-        70 | 71 => path_calls::read_lines(call),
         _ => text_calls::read(call, slots, path, other),
     }
 }

@@ -1,4 +1,4 @@
-// Calls 60 to 62 and 64: what the store keeps of an element, and what its record holds. What shows a record asks for a number that names one.
+// Calls 60, 61 and 64: what the store keeps of an element, and what its record holds. What shows a record asks for a number that names one.
 
 ghost use Rattle.std.specs.Prelude.{◌≡◌, false};
 ghost use Rattle.definitions.specs.Tree.{is_node};
@@ -16,14 +16,16 @@ use script::call::Call;
 use script::words;
 use utility_types::{Refusal, SyntaxKind};
 
-// Calls 60 to 62.
+// Calls 60 and 61.
 fn put_kept(out: &mut Buffer, op: u32, of: Summarized) {
     match of {
-        Summarized::Of(it) => match op {
-            60 => show::put_summary(out, it),
-            61 => show::put_mark(out, it.hash),
-            _ => show::put_newlines(out, it.newlines),
-        },
+        Summarized::Of(it) => {
+            if op == 60 {
+                show::put_summary(out, it);
+            } else {
+                show::put_mark(out, it.hash);
+            }
+        }
         Summarized::Refused(why) => show::put_refused(out, why),
     }
 }

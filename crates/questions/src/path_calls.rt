@@ -1,4 +1,4 @@
-// Calls 20 to 40: what is asked of a path that is among the call's words; and calls 70 and 71, of a root alone.
+// Calls 20 to 40: what is asked of a path that is among the call's words.
 
 ghost use Rattle.std.specs.Prelude.{◌<◌};
 
@@ -70,23 +70,6 @@ fn by_number(call: Call) -> Asked
     let root = words::read_last_word(call, number.left);
     let question = Question::WhereIs(number.value);
     asked::ask(root.ok, question, root.value, 0, 0)
-}
-
-// Calls 70 and 71: a root's number, and an offset or a line in its text.
-pub fn read_lines(call: Call) -> Asked
-    ensures { result.slot < 8 }
-{
-    let root = words::take_word(call, call.m);
-    if !root.ok {
-        return asked::nothing();
-    }
-    let at = words::read_last_word(call, root.left);
-    let question = if call.op == 70 {
-        Question::LineOf(at.value)
-    } else {
-        Question::LineStart(at.value)
-    };
-    asked::ask(at.ok, question, root.value, 0, 0)
 }
 
 // What a call asks of its path alone, if it is one of those that do.

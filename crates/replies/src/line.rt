@@ -52,12 +52,11 @@ fn put_truth(out: &mut Buffer, is_so: bool) {
     }
 }
 
-// The number that call `op` asks for.
-fn put_asked(out: &mut Buffer, op: u32, n: usize) {
+// What call `op` asks of a text.
+fn put_of_text(out: &mut Buffer, op: u32, n: usize) {
     match op {
         52 => out::put(out, b"length"),
-        56 | 71 => out::put(out, b"at"),
-        70 => out::put(out, b"line"),
+        56 => out::put(out, b"at"),
         _ => out::put(out, b"char"),
     }
     put_number(out, n);
@@ -69,7 +68,7 @@ fn put_told(out: &mut Buffer, op: u32, reply: Reply, path: &[u32; 64], other: &[
         Reply::Element(it) => put_element(out, b"", it, path),
         Reply::Tokens(tokens) => put_tokens(out, tokens, path, other),
         Reply::Text(_, _) => out::put(out, b"ok"),
-        Reply::Number(n) => put_asked(out, op, n),
+        Reply::Number(n) => put_of_text(out, op, n),
         Reply::Truth(is_so) => put_truth(out, is_so),
         Reply::Walk(_) => out::put(out, b"ok"),
         Reply::Path(depth) => put_found(out, path, depth),

@@ -74,11 +74,6 @@ pub fn put_summary(out: &mut Buffer, it: Summary) {
     put_number(out, it.children);
 }
 
-pub fn put_newlines(out: &mut Buffer, newlines: usize) {
-    out::put(out, b"newlines");
-    put_number(out, newlines);
-}
-
 pub fn put_mark(out: &mut Buffer, hash: u64) {
     out::put(out, b"mark ");
     let mut digits = [0u8; 16];

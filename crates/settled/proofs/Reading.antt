@@ -58,8 +58,6 @@ module _ (es : List Entry) (root depth : ℕ) (l m : List ℕ) where
   fixed (question.EqualText a b root₂ depth₂ a₂ b₂) h = tt
   fixed (question.SameElement root₂ depth₂) h = tt
   fixed (question.WhereIs n) h = absurd (h n refl)
-  fixed (question.LineOf x) h = tt
-  fixed (question.LineStart k) h = tt
 
 pub query_once : (s : Store) (root depth : ℕ) (p p₁ p₂ r r₁ r₂ : List ℕ) (o : Option Question) (m m₁ m₂ : List ℕ) (x₁ x₂ : ℕ)
     → length p₁ ≡ 64 → length p₂ ≡ 64 → length r₁ ≡ 64 → length r₂ ≡ 64 → ((n : ℕ) → o ≡ some (question.WhereIs n) → ⊥)

@@ -92,7 +92,7 @@ ended_told_lem (ended.Root n) = refl
 ended_told_lem (ended.Refused x i) = refl
 
 abbrev told_fields : Result RecordFields → Output
-told_fields (ok f) = told (element_kind f.is_node) (f.kind ∷ f.len ∷ f.size ∷ f.height ∷ f.children ∷ f.newlines ∷ [])
+told_fields (ok f) = told (element_kind f.is_node) (f.kind ∷ f.len ∷ f.size ∷ f.height ∷ f.children ∷ [])
 told_fields (refused n) = told (100 + n) []
 
 summary_told_lem : (a : Summarized) → summary_told a ≡ told_fields (summarized a)

@@ -1,10 +1,9 @@
 // rowan's utility_types.rs, and the types of the answers that every crate above shares.
-// `number` has numbers of other widths, `byte` what a byte of a text is. specs/ says of each what document 01 means by it.
+// `number` has numbers of other widths. specs/ says of each what document 01 means by it.
 
 ghost use Rattle.std.specs.Prelude.{◌≡◌};
 ghost use Rattle.utility_types.specs.Numbers.{refusal_number};
 
-pub mod byte;
 pub mod number;
 
 // A kind, as in rowan: a number of 16 bits, told apart from other numbers by its type.

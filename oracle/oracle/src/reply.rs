@@ -91,9 +91,6 @@ pub enum Reply {
     Char(u8),
     Measured { is_node: bool, kind: u16, length: u32, size: u32, height: u32, children: u32 },
     Mark(u64),
-    Newlines(u32),
-    /// A text of 4,294,967,295 newlines has one line more.
-    Line(u64),
     TokenRecord { kind: u16, text: Vec<u8> },
     NodeRecord { kind: u16, maker: Maker, children: Vec<u32> },
 }
@@ -226,8 +223,6 @@ impl Display for Reply {
                 write!(f, "{what} {kind} {length} {size} {height} {children}")
             }
             Reply::Mark(mark) => write!(f, "mark {mark:016x}"),
-            Reply::Newlines(count) => write!(f, "newlines {count}"),
-            Reply::Line(line) => write!(f, "line {line}"),
             Reply::TokenRecord { kind, text } => write!(f, "token {kind} {}", Bytes(text)),
             Reply::NodeRecord { kind, maker, children } => {
                 write!(f, "node {kind} {maker} {}", Indexes(children))

@@ -3,7 +3,7 @@
 
 use oracle::{
     compare::{replies, Subject, Tally},
-    generate::{all_sheets, run_twice, script, sheet_count, tree_calls, Alphabet, Profile, Topic},
+    generate::{all_sheets, run_twice, script, sheet_count, tree_calls, Profile, Topic},
     model::Model,
     reply::{Counts, Refusal, Reply},
     script::{read, write, Call, MAX_BYTES},
@@ -25,10 +25,10 @@ fn random_scripts() {
     assert_eq!(met, ALL_REFUSALS, "{tally}");
 }
 
-/// All sheets of three events with all that their trees can be asked; how many trees there are.
-fn short_sheets(alphabet: Alphabet) -> usize {
+#[test]
+fn all_sheets_of_three_events_with_all_that_a_tree_can_be_asked() {
     let (mut sheets, mut trees) = (0, 0);
-    for run in all_sheets(alphabet, 3) {
+    for run in all_sheets(3) {
         sheets += 1;
         replies(&run_twice(&run)).unwrap_or_else(|it| panic!("{it}"));
         for topic in Topic::ALL {
@@ -42,20 +42,9 @@ fn short_sheets(alphabet: Alphabet) -> usize {
         }
     }
     assert_eq!((sheets, sheet_count(3)), (1 + 8 + 64 + 512, sheets));
-    trees
-}
-
-#[test]
-fn all_sheets_of_three_events_with_all_that_a_tree_can_be_asked() {
     // Of two events: start and finish, in two kinds. Of three: a token between them (6), a
     // checkpoint anywhere (6), a start before (4) or after (4); checkpoint, start at it, finish.
-    assert_eq!(short_sheets(Alphabet::Events), 2 + 6 + 6 + 4 + 4 + 1);
-}
-
-#[test]
-fn all_sheets_of_three_events_with_newlines() {
-    // Start and finish, with a token between them (6), or with a start before or after.
-    assert_eq!(short_sheets(Alphabet::Lines), 1 + 6 + 2);
+    assert_eq!(trees, 2 + 6 + 6 + 4 + 4 + 1);
 }
 
 /// The number of a call in a script.
@@ -78,7 +67,7 @@ fn random_scripts_meet_every_refusal_of_every_call() {
             }
         }
     }
-    let expected: [(u8, &[u8]); 14] = [
+    let expected: [(u8, &[u8]); 12] = [
         (3, &[1, 2, 3, 11, 12, 13, 14, 15]),
         (10, &[4, 14, 15]),
         (11, &[4, 5, 14, 15]),
@@ -91,8 +80,6 @@ fn random_scripts_meet_every_refusal_of_every_call() {
         (50, &[4]),
         (51, &[5]),
         (64, &[4]),
-        (70, &[4, 5]),
-        (71, &[4, 5]),
     ];
     for (op, refusals) in expected {
         let often: Vec<u8> = met[&op]
@@ -180,8 +167,8 @@ fn profiles_hold_what_they_say() {
     };
     let sheets = BTreeSet::from([1, 2, 3]);
     let edits = BTreeSet::from([10, 11, 12, 13, 14]);
-    let queries: BTreeSet<u8> = (20..=38).chain([70, 71]).collect();
-    let others = (40..=43).chain(50..=58).chain([60, 61, 62, 64]);
+    let queries: BTreeSet<u8> = (20..=38).collect();
+    let others = (40..=43).chain(50..=58).chain([60, 61, 64]);
     let reading: BTreeSet<u8> = queries.iter().copied().chain(others).collect();
     assert_eq!(ops(Profile::Sheets), sheets);
     assert_eq!(ops(Profile::Queries), &sheets | &queries);

@@ -42,7 +42,7 @@ fn form(call: &Call, reply: &Reply) -> String {
 
 /// The forms that the replies to each call can have, those of refusals as their numbers.
 #[rustfmt::skip]
-const FORMS: [(u8, &str, &[u8]); 46] = [
+const FORMS: [(u8, &str, &[u8]); 43] = [
     (1, "ok", &[]),
     (2, "root", &[1, 2, 3, 11, 12, 13, 14, 15]),
     (3, "root", &[1, 2, 3, 11, 12, 13, 14, 15]),
@@ -86,10 +86,7 @@ const FORMS: [(u8, &str, &[u8]); 46] = [
     (58, "yes, no, no text", &[]),
     (60, "node, token", &[4]),
     (61, "mark", &[4]),
-    (62, "newlines", &[4]),
     (64, "token, token 0, node event, node edit", &[4]),
-    (70, "line", &[4, 5]),
-    (71, "at", &[4, 5]),
 ];
 
 #[test]

@@ -4,7 +4,6 @@ mod builds;
 mod edits;
 mod elements;
 mod handles;
-mod lines;
 mod places;
 mod texts;
 mod tokens;
@@ -59,14 +58,6 @@ pub const HANDLES: [Spec; 6] = [
     Spec { key: "crate_find", title: "find_char, not there", unit: "token" },
 ];
 
-/// The rows of lines, which rowan does not have: beside what its user would write.
-pub const LINES: [Spec; 4] = [
-    Spec { key: "line_of", title: "line of an offset, beside counting the newlines of rowan's text", unit: "call" },
-    Spec { key: "line_start", title: "start of a line, beside counting the newlines of rowan's text", unit: "call" },
-    Spec { key: "line_of_table", title: "line of an offset, beside a table of line starts", unit: "call" },
-    Spec { key: "line_start_table", title: "start of a line, beside a table of line starts", unit: "call" },
-];
-
 /// Every row that is wanted, on one tree.
 pub fn all(case: &Case, bench: &mut Bench) {
     builds(case.name, &case.sheet, bench);
@@ -76,7 +67,6 @@ pub fn all(case: &Case, bench: &mut Bench) {
     elements::rows(case, bench);
     edits::rows(case, bench);
     texts::rows(case, bench);
-    lines::rows(case, bench);
     handles::rows(case, bench);
 }
 

@@ -57,7 +57,7 @@ fn our_chunks(case: &Case) -> u64 {
 }
 
 /// A question about the root's text.
-pub fn query(case: &Case, code: usize, operands: &ffi::Words) -> (usize, usize) {
+fn query(case: &Case, code: usize, operands: &ffi::Words) -> (usize, usize) {
     let mut words = [0; 8];
     let outcome = ask!(&case.store, notes_query, case.root, &mut [0; 64], &mut [0; 64], 0, code, operands, &mut words);
     (outcome, words[0])

@@ -9,7 +9,6 @@ use std::{
 use crate::{
     calls::{Children, Places},
     cursor::{path::where_is, Handle, Preorder, PreorderWithTokens, SyntaxElement, SyntaxPath, SyntaxToken},
-    ffi,
     green::{GreenElement, GreenNode, GreenNodeBuilder, Store},
     indexes::Indexes,
     refusal::Refusal,
@@ -66,41 +65,6 @@ impl<'s> SyntaxNode<'s> {
     /// The path of an occurrence of `element` in the tree of this node alone, which its path has for a root. Added to rowan.
     pub fn where_is(&self, element: impl Into<GreenElement>) -> Result<Option<SyntaxPath>, Refusal> {
         where_is(self.0.store, self.green(), element.into())
-    }
-
-    /// The line of an offset, in the text of the whole tree that this node stands in: one more than the newlines before the
-    /// offset. It is a `u64`, for a text of 4,294,967,295 newlines has one line more. Added to rowan.
-    ///
-    /// [`Refusal::Outside`] if the offset is past the text; its end is not.
-    ///
-    /// ```
-    /// # use notes_tree::{GreenNodeBuilder, Refusal, Store, SyntaxKind, SyntaxNode};
-    /// # let mut builder = GreenNodeBuilder::new();
-    /// # builder.start_node(SyntaxKind(1));
-    /// # builder.token(SyntaxKind(2), "BS CP4\n");
-    /// # builder.token(SyntaxKind(2), "FS IP1\n");
-    /// # builder.finish_node();
-    /// # let mut store = Store::new();
-    /// # let job = builder.finish(&mut store)?;
-    /// let root = SyntaxNode::new_root(&store, job)?;
-    /// assert_eq!(root.text(), "BS CP4\nFS IP1\n");
-    /// assert_eq!((root.line_of(6)?, root.line_of(7)?, root.line_of(14)?), (1, 2, 3));
-    /// assert_eq!((root.line_start(1)?, root.line_start(2)?, root.line_start(3)?), (0, 7, 14));
-    /// assert_eq!((root.line_of(15), root.line_start(4)), (Err(Refusal::Outside), Err(Refusal::Outside)));
-    /// # Ok::<(), Box<dyn std::error::Error>>(())
-    /// ```
-    pub fn line_of(&self, offset: TextSize) -> Result<u64, Refusal> {
-        let line = self.0.store.places.of_root(ffi::LINE_OF, self.0.root, offset as usize)?;
-        Ok(line as u64)
-    }
-
-    /// Where a line starts, in the text of the whole tree that this node stands in: line 1 at 0, every other behind the newline
-    /// that ends the line before it. Added to rowan.
-    ///
-    /// [`Refusal::Outside`] if there is no such line; the first is 1.
-    pub fn line_start(&self, line: u64) -> Result<TextSize, Refusal> {
-        let start = self.0.store.places.of_root(ffi::LINE_START, self.0.root, line as usize)?;
-        Ok(start as TextSize)
     }
 
     /// A builder with the calls that make this node's tree anew. So a tree is carried over into a new store when its own is full:

@@ -53,8 +53,6 @@ pub struct Record {
     pub height: usize,
     /// How many children it has.
     pub children: usize,
-    /// How many newlines its text has.
-    pub newlines: usize,
 }
 
 impl Store<'static> {
@@ -128,8 +126,8 @@ impl<'b> Store<'b> {
     pub fn record(&self, element: impl Into<GreenElement>) -> Result<Record, Refusal> {
         let mut words = Words::default();
         self.places.element(self.own(element.into())?, &mut words)?;
-        let [kind, text_len, size, height, children, newlines, ..] = words;
-        Ok(Record { kind: SyntaxKind(kind as u16), text_len: text_len as TextSize, size, height, children, newlines })
+        let [kind, text_len, size, height, children, ..] = words;
+        Ok(Record { kind: SyntaxKind(kind as u16), text_len: text_len as TextSize, size, height, children })
     }
 
     /// The element of a number that is known to name one.

@@ -3,7 +3,6 @@
 //! from rowan, and a panic is the refusal that document 01 names for it.
 
 mod edit;
-mod lines;
 mod panics;
 mod reading;
 mod run;

@@ -1,6 +1,6 @@
 //! The reading calls of one answer, by rowan's cursors.
 
-use super::{caught, is_outside_domain, lines, table::Table, Adapter, Fault};
+use super::{caught, is_outside_domain, table::Table, Adapter, Fault};
 use crate::{
     reply::{Element, Refusal, Reply},
     script::{Call, Path, Step},
@@ -10,7 +10,7 @@ use rowan::{
     NodeOrToken, TextRange, TokenAtOffset,
 };
 
-pub const OUT_OF_RANGE_REPLY: Reply = Reply::Refused(Refusal::OUT_OF_RANGE);
+const OUT_OF_RANGE_REPLY: Reply = Reply::Refused(Refusal::OUT_OF_RANGE);
 
 /// The cursor at a path that the model has found to lead somewhere.
 pub fn resolve(table: &Table, path: &Path) -> SyntaxElement {
@@ -74,10 +74,7 @@ impl Adapter {
             Call::WhereIs { number, root } => self.check_where_is(*number, *root, model)?,
             Call::Element { number } => self.table.measured(*number),
             Call::Mark { number } => Reply::Mark(self.table.hash(*number)),
-            Call::Newlines { number } => lines::newlines(self.table.green(*number)),
             Call::Record { number } => self.table.shown(*number)?,
-            Call::LineOf { root, offset } => lines::line_of(self.table.node(*root), *offset),
-            Call::LineStart { root, line } => lines::line_start(self.table.node(*root), *line),
             _ => unreachable!("not a reading call"),
         })
     }

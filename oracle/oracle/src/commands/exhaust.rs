@@ -8,7 +8,7 @@ use super::{
     Failure,
 };
 use crate::{
-    generate::{all_sheets, run_twice, sheet_count, tree_calls, Alphabet, Topic},
+    generate::{all_sheets, run_twice, sheet_count, tree_calls, Topic},
     script::{size, Call, MAX_BYTES},
 };
 
@@ -18,10 +18,6 @@ const MAX_EVENTS: usize = 9;
 pub fn exhaust(events: &str, words: &[&str]) -> Result<(), Failure> {
     let events: usize = number(events)?;
     let mut words = words.to_vec();
-    let alphabet = match take_flag(&mut words, "--lines") {
-        true => Alphabet::Lines,
-        false => Alphabet::Events,
-    };
     let topics = take_topics(&mut words);
     let program = take_value(&mut words, "--program")?;
     let save = take_value(&mut words, "--save")?;
@@ -36,7 +32,7 @@ pub fn exhaust(events: &str, words: &[&str]) -> Result<(), Failure> {
     let sheets = sheet_count(events);
     let mut trees = 0;
     let mut progress = Progress::new(sheets, "sheets");
-    for run in all_sheets(alphabet, events) {
+    for run in all_sheets(events) {
         trees += usize::from(batch.sheet(&run, &topics)?);
         progress.advance();
     }

@@ -18,7 +18,7 @@ use: oracle replay FILE
          prints the model's replies alone
      oracle gen SEED COUNT FOLDER [PROFILE]
          writes random call scripts; a profile is sheets, queries, reading or all
-     oracle exhaust EVENTS [--lines] [--queries] [--walks] [--texts] [--edits] [--program PROGRAM] [--save FILE]
+     oracle exhaust EVENTS [--queries] [--walks] [--texts] [--edits] [--program PROGRAM] [--save FILE]
          compares all sheets of up to so many events, on request with all queries, walks, texts
          or edits of each tree
      oracle compare [PROGRAM] [--seed SEED] [--scripts COUNT] [--profile PROFILE] [--no-marks] [--save FILE]

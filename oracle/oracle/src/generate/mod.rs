@@ -11,7 +11,7 @@ mod sample;
 mod script;
 mod sheets;
 
-pub use exhaust::{all_sheets, run_twice, sheet_count, tree_calls, Alphabet, Topic};
+pub use exhaust::{all_sheets, run_twice, sheet_count, tree_calls, Topic};
 pub use random::Random;
 pub use sample::sample;
 pub use script::script;

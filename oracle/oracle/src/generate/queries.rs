@@ -57,9 +57,6 @@ impl Writer {
         let number = self.number();
         self.put(Call::Element { number });
         self.put(Call::Mark { number });
-        if self.is_moderate(Some(number)) {
-            self.put(Call::Newlines { number });
-        }
         self.put(Call::Record { number });
     }
 
@@ -115,7 +112,8 @@ impl Writer {
         for _ in 0..8 {
             let path = self.node_path();
             let number = self.model.number_at(&path);
-            if self.is_moderate(number) {
+            let size = number.and_then(|it| self.model.size(it));
+            if size.is_none_or(|it| it < LARGE) || self.random.chance(1) {
                 return path;
             }
         }
@@ -125,51 +123,18 @@ impl Writer {
         }
     }
 
-    /// Whether an element is not large, or shall be read all the same.
-    fn is_moderate(&mut self, number: Option<u32>) -> bool {
-        let size = number.and_then(|it| self.model.size(it));
-        size.is_none_or(|it| it < LARGE) || self.random.chance(1)
-    }
-
-    /// Lines and offsets of a root's text.
-    pub fn lines(&mut self) {
-        let root = self.node();
-        if !self.is_moderate(Some(root)) {
-            return;
-        }
-        let length = self.model.length(root).unwrap_or(3);
-        let last_line = self.model.newlines(root).unwrap_or(3).saturating_add(1);
-        for _ in 0..self.random.between(1, 6) {
-            let call = match self.random.chance(50) {
-                true => Call::LineOf {
-                    root,
-                    offset: self.up_to(length),
-                },
-                false => Call::LineStart {
-                    root,
-                    line: self.up_to(last_line),
-                },
-            };
-            self.put(call);
-        }
-    }
-
-    /// A number from 0 up to this one, often an end of these, now and then one past or any.
-    fn up_to(&mut self, most: u32) -> u32 {
-        match self.random.below(12) {
-            0 => self.random.word(),
-            1 => most.saturating_add(1),
-            2 => most,
-            3 => 0,
-            _ => self.random.below(most as usize + 1) as u32,
-        }
-    }
-
     /// Takes a slice and answers its slot.
     fn slice(&mut self, from: usize) -> usize {
         let to = self.random.below(SLOTS);
         let length = self.model.text_length(from).unwrap_or(3);
-        let (start, end) = (self.up_to(length), self.up_to(length));
+        let end = |random: &mut super::Random| match random.below(12) {
+            0 => random.word(),
+            1 => length.saturating_add(1),
+            2 => length,
+            3 => 0,
+            _ => random.below(length as usize + 1) as u32,
+        };
+        let (start, end) = (end(&mut self.random), end(&mut self.random));
         let (start, end) = match self.random.chance(90) {
             true => (start.min(end), start.max(end)),
             false => (start, end),

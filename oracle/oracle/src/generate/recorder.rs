@@ -1,6 +1,5 @@
 //! Calls as they are put, with a model beside them that knows the replies.
 
-use super::exhaust;
 use crate::{
     model::Model,
     reply::Reply,
@@ -50,13 +49,6 @@ impl Recorder {
     pub fn all_records(&mut self) {
         for number in 0..=self.record_count() {
             self.put(Call::Record { number });
-        }
-    }
-
-    /// Asks for all that there is to know of the lines of a record's text.
-    pub fn all_lines(&mut self, number: u32) {
-        for call in exhaust::lines(&self.model, number) {
-            self.put(call);
         }
     }
 

@@ -1,15 +1,14 @@
 //! The stored sample: runs of sheets at and past every limit, all sheets of few events, queries,
-//! edits, walks, texts and lines of chosen trees, and random calls, each on a store of its own.
+//! edits, walks and texts of chosen trees, and random calls, each on a store of its own.
 
 mod edits;
-mod lines;
 mod queries;
 mod texts;
 mod walks;
 
 use super::{
     collisions::{ZERO_NODES, ZERO_TOKENS},
-    exhaust::{all_sheets, run_twice, Alphabet},
+    exhaust::{all_sheets, run_twice},
     recorder::{Recorder, MOST},
     script::script,
     sheets::Files,
@@ -46,7 +45,7 @@ pub fn sample() -> Vec<Call> {
     sharing(&mut sample);
     small_stores(&mut sample);
     full_stores(&mut sample);
-    for run in all_sheets(Alphabet::Events, SHORT) {
+    for run in all_sheets(SHORT) {
         for call in run_twice(&run) {
             sample.put(call);
         }
@@ -60,7 +59,6 @@ pub fn sample() -> Vec<Call> {
     edits::edits(&mut sample);
     walks::walks(&mut sample);
     texts::texts(&mut sample);
-    lines::lines(&mut sample);
     for calls in mixed_scripts() {
         sample.store(MOST);
         calls.into_iter().for_each(|it| sample.put_settled(it));

@@ -93,23 +93,21 @@ impl Writer {
     }
 
     fn query(&mut self) {
-        match self.random.below(6) {
+        match self.random.below(5) {
             0 | 1 => self.steps(),
             2 | 3 => self.offsets(),
-            4 => self.lines(),
             _ => self.identities(),
         }
     }
 
     /// A call that reads, or some of a sort.
     fn reading(&mut self) {
-        match self.random.below(22) {
+        match self.random.below(20) {
             0..=2 => self.steps(),
             3..=5 => self.offsets(),
             6..=8 => self.identities(),
             9..=12 => self.walk(),
             13..=18 => self.text(),
-            19 | 20 => self.lines(),
             _ => self.records(),
         }
     }

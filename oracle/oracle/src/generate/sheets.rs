@@ -6,10 +6,7 @@ use super::{
 };
 use crate::sheet::{Event, Sheet, SheetWriter};
 
-#[rustfmt::skip]
-const TEXTS: [&[u8]; 12] = [
-    b"", b"", b"a", b"b", b"BS", b" ", b"12", b"\x7f", b"abcabc", b"\n", b"\n\n", b"a\r\nb\n",
-];
+const TEXTS: [&[u8]; 9] = [b"", b"", b"a", b"b", b"BS", b" ", b"12", b"\x7f", b"abcabc"];
 
 /// A sheet's bytes and its text.
 pub type Files = (Vec<u8>, Vec<u8>);

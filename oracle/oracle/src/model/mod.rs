@@ -4,7 +4,6 @@
 mod cursor;
 mod edit;
 mod hash;
-mod line;
 mod query;
 mod run;
 mod store;
@@ -104,10 +103,7 @@ impl Model {
             Call::WhereIs { number, root } => query::where_is(&self.store, *number, *root)?,
             Call::Element { number } => self.store.get(*number)?.measured(),
             Call::Mark { number } => Reply::Mark(self.store.get(*number)?.hash),
-            Call::Newlines { number } => Reply::Newlines(self.store.get(*number)?.newlines),
             Call::Record { number } => self.store.shown(self.store.get(*number)?),
-            Call::LineOf { root, offset } => line::line_of(&self.store, *root, *offset)?,
-            Call::LineStart { root, line } => line::line_start(&self.store, *root, *line)?,
             _ => unreachable!("not a reading call"),
         })
     }
@@ -132,11 +128,6 @@ impl Model {
     /// The text length of an element.
     pub fn length(&self, number: u32) -> Option<u32> {
         Some(self.store.get(number).ok()?.length)
-    }
-
-    /// The count of newlines in an element's text.
-    pub fn newlines(&self, number: u32) -> Option<u32> {
-        Some(self.store.get(number).ok()?.newlines)
     }
 
     /// The count of elements under and with an element, repeats included.

@@ -1,6 +1,6 @@
 //! The store: records in the order of their numbers, and which of them events may find.
 
-use super::{hash, line};
+use super::hash;
 use crate::reply::{Counts, Maker, Refusal, Reply};
 use std::{collections::HashMap, ops::Range};
 
@@ -33,7 +33,6 @@ pub struct Record {
     pub kind: u16,
     pub content: Content,
     pub length: u32,
-    pub newlines: u32,
     pub size: u32,
     pub height: u32,
     pub hash: u64,
@@ -73,7 +72,6 @@ pub struct NewNode {
     kind: u16,
     children: Vec<u32>,
     length: u32,
-    newlines: u32,
     size: u32,
     height: u32,
     hash: u64,
@@ -88,7 +86,6 @@ impl NewNode {
     pub fn measures(&self) -> Measures {
         Measures {
             length: self.length,
-            newlines: self.newlines,
             size: self.size,
             height: self.height,
             hash: self.hash,
@@ -100,7 +97,6 @@ impl NewNode {
 #[derive(Debug, Clone, Copy)]
 pub struct Measures {
     length: u32,
-    newlines: u32,
     size: u32,
     height: u32,
     hash: u64,
@@ -194,7 +190,6 @@ impl Store {
         let record = self.at(number);
         Measures {
             length: record.length,
-            newlines: record.newlines,
             size: record.size,
             height: record.height,
             hash: record.hash,
@@ -226,7 +221,6 @@ impl Store {
             kind,
             content: Content::Token { first },
             length: text.len() as u32,
-            newlines: line::newlines(text),
             size: 1,
             height: 0,
             hash: hash::of_token(kind, text),
@@ -274,7 +268,6 @@ impl Store {
             kind: node.kind,
             content,
             length: node.length,
-            newlines: node.newlines,
             size: node.size,
             height: node.height,
             hash: node.hash,
@@ -303,14 +296,11 @@ pub fn measured_node(
     {
         return Err(Refusal::OVER_LIMIT);
     }
-    // No more than the bytes, which a word counts.
-    let newlines = measures.iter().map(|it| it.newlines).sum();
     let hashes: Vec<u64> = measures.iter().map(|it| it.hash).collect();
     Ok(NewNode {
         kind,
         children,
         length: length as u32,
-        newlines,
         size: size as u32,
         height,
         hash: hash::of_node(kind, &hashes),

@@ -76,11 +76,11 @@ pub enum Group {
     Store,
     Run,
     Edit,
-    /// Calls 20 to 38, 70 and 71.
+    /// Calls 20 to 38.
     Query,
     Walk,
     Text,
-    /// Calls 60, 61, 62 and 64.
+    /// Calls 60, 61 and 64.
     Record,
     Unknown,
 }
@@ -94,8 +94,9 @@ impl Call {
             Call::ReplaceChild { .. } | Call::InsertChild { .. } | Call::RemoveChild { .. }
             | Call::SpliceChildren { .. } | Call::ReplaceWith { .. } => Group::Edit,
             Call::Step { .. } | Call::TokenAtOffset { .. } | Call::ChildOrTokenAtRange { .. }
-            | Call::CoveringElement { .. } | Call::SameElement { .. } | Call::WhereIs { .. }
-            | Call::LineOf { .. } | Call::LineStart { .. } => Group::Query,
+            | Call::CoveringElement { .. } | Call::SameElement { .. } | Call::WhereIs { .. } => {
+                Group::Query
+            }
             Call::WalkBegin { .. } | Call::WalkNext { .. } | Call::WalkSkip { .. }
             | Call::WalkMany { .. } => Group::Walk,
             Call::TextOf { .. } | Call::TextSlice { .. } | Call::TextLength { .. }
@@ -103,8 +104,7 @@ impl Call {
             | Call::TextFind { .. } | Call::TextCharAt { .. } | Call::TextEqual { .. } => {
                 Group::Text
             }
-            Call::Element { .. } | Call::Mark { .. } | Call::Newlines { .. }
-            | Call::Record { .. } => Group::Record,
+            Call::Element { .. } | Call::Mark { .. } | Call::Record { .. } => Group::Record,
             Call::Unknown { .. } => Group::Unknown,
         }
     }
@@ -144,11 +144,6 @@ pub enum Call {
     Element { number: u32 },
     Record { number: u32 },
     Mark { number: u32 },
-    Newlines { number: u32 },
-    /// Of a root's text: the line of an offset.
-    LineOf { root: u32, offset: u32 },
-    /// The same: where a line starts.
-    LineStart { root: u32, line: u32 },
     /// A call that this reader does not know.
     Unknown { op: u32, words: Vec<u32> },
 }

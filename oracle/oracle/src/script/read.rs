@@ -85,10 +85,7 @@ fn read_arguments(op: u32, w: &mut Words) -> Result<Call, String> {
         58 => Call::TextEqual { left: w.slot()?, right: w.slot()? },
         60 => Call::Element { number: w.word()? },
         61 => Call::Mark { number: w.word()? },
-        62 => Call::Newlines { number: w.word()? },
         64 => Call::Record { number: w.word()? },
-        70 => Call::LineOf { root: w.word()?, offset: w.word()? },
-        71 => Call::LineStart { root: w.word()?, line: w.word()? },
         _ => Call::Unknown { op, words: w.rest() },
     })
 }

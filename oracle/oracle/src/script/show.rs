@@ -79,10 +79,7 @@ impl Display for Call {
             Call::WhereIs { number, root } => write!(f, "where_is {number} root {root}"),
             Call::Element { number } => write!(f, "element {number}"),
             Call::Mark { number } => write!(f, "mark {number}"),
-            Call::Newlines { number } => write!(f, "newlines {number}"),
             Call::Record { number } => write!(f, "record {number}"),
-            Call::LineOf { root, offset } => write!(f, "line_of_offset {offset} root {root}"),
-            Call::LineStart { root, line } => write!(f, "line_start {line} root {root}"),
             Call::Unknown { op, words } => write!(f, "call number {op} with {words:?}"),
             _ => self.show_slot_call(f),
         }

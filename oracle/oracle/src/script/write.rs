@@ -58,10 +58,7 @@ fn words(call: &Call) -> (u32, Arguments) {
         Call::TextEqual { left, right } => (58, a.slot(*left).slot(*right)),
         Call::Element { number } => (60, a.word(*number)),
         Call::Mark { number } => (61, a.word(*number)),
-        Call::Newlines { number } => (62, a.word(*number)),
         Call::Record { number } => (64, a.word(*number)),
-        Call::LineOf { root, offset } => (70, a.word(*root).word(*offset)),
-        Call::LineStart { root, line } => (71, a.word(*root).word(*line)),
         Call::Unknown { op, words } => (*op, a.words(words)),
     }
 }

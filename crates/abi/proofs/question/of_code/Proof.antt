@@ -85,13 +85,7 @@ returns-26 : tie.Need-returns-26
 returns-26 c = rw c.before.before.before.before.before.before.match.keys26
 
 returns-27 : tie.Need-returns-27
-returns-27 c = rw c.before.match.keys27
-
-returns-28 : tie.Need-returns-28
-returns-28 c = rw c.before.match.keys28
-
-returns-29 : tie.Need-returns-29
-returns-29 c = sym (past_end (questions c.before.args.m.now) c.before.args.code (missed 28 c.before.args.code c.match.rest))
+returns-27 c = sym (past_end (questions c.before.args.m.now) c.before.args.code (missed 26 c.before.args.code c.match.rest))
 
 pub of-code-spec : {M : Type 1} → statement M
 of-code-spec =
@@ -128,8 +122,6 @@ of-code-spec =
     (λ c. search rules)
     (λ c. search rules)
     (λ c. search rules)
-    (λ c. search rules)
-    (λ c. search rules)
     returns
     returns-2
     returns-3
@@ -156,6 +148,4 @@ of-code-spec =
     returns-24
     returns-25
     returns-26
-    returns-27
-    returns-28
-    returns-29)
+    returns-27)

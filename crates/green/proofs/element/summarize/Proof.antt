@@ -17,14 +17,42 @@ count-of-requires c κs = known _ c.before.before.before.before.before.before.re
 kind-of-requires : tie.Need-kind-of-requires
 kind-of-requires c κs = known _ c.before.before.before.before.before.before.before.requires _ c.before.before.if1.false
 
-measure-of-requires : tie.Need-measure-of-requires
-measure-of-requires c κs = known _ c.before.before.before.before.before.before.before.before.requires _ c.before.before.before.if1.false
+text-len-requires : tie.Need-text-len-requires
+text-len-requires c κs = known _ c.before.before.before.before.before.before.before.before.requires _ c.before.before.before.if1.false
+
+size-of-requires : tie.Need-size-of-requires
+size-of-requires c κs = known _ c.before.before.before.before.before.before.before.before.before.requires _ c.before.before.before.before.if1.false
+
+height-of-requires : tie.Need-height-of-requires
+height-of-requires c κs = known _ c.before.before.before.before.before.before.before.before.before.before.requires _ c.before.before.before.before.before.if1.false
+
+hash-of-requires : tie.Need-hash-of-requires
+hash-of-requires c κs = known _ c.before.before.before.before.before.before.before.before.before.before.before.requires _ c.before.before.before.before.before.before.if1.false
 
 returns-2 : tie.Need-returns-2
-returns-2 c = let k = known _ c.before.before.before.before.before.before.before.before.before.before.requires _ c.before.before.before.before.before.if1.false in a_summary _ _ k c.before.before.before.before.is_node_lem.ensures c.before.before.kind-of.ensures c.before.measure-of.ensures.0 (node_children _ _ k c.before.before.before.before.is_node_lem.ensures c.before.before.before.count_of.ensures c.if2.true)
+returns-2 c =
+    let k = known _ c.before.before.before.before.before.before.before.before.before.before.before.before.before.requires _ c.before.before.before.before.before.before.before.before.if1.false in
+    a_summary _ _ k c.before.before.before.before.before.before.before.is_node_lem.ensures c.before.before.before.before.before.kind-of.ensures c.before.before.before.before.text-len.ensures c.before.before.before.type_size.ensures c.before.before.height-of.ensures c.before.hash-of.ensures
+    (node_children _ _ k c.before.before.before.before.before.before.before.is_node_lem.ensures c.before.before.before.before.before.before.count_of.ensures c.if2.true)
 
 returns-3 : tie.Need-returns-3
-returns-3 c = let k = known _ c.before.before.before.before.before.before.before.before.before.before.requires _ c.before.before.before.before.before.if1.false in a_summary _ _ k c.before.before.before.before.is_node_lem.ensures c.before.before.kind-of.ensures c.before.measure-of.ensures.0 (token_children _ _ k c.before.before.before.before.is_node_lem.ensures c.if2.false)
+returns-3 c =
+    let k = known _ c.before.before.before.before.before.before.before.before.before.before.before.before.before.requires _ c.before.before.before.before.before.before.before.before.if1.false in
+    a_summary _ _ k c.before.before.before.before.before.before.before.is_node_lem.ensures c.before.before.before.before.before.kind-of.ensures c.before.before.before.before.text-len.ensures c.before.before.before.type_size.ensures c.before.before.height-of.ensures c.before.hash-of.ensures
+    (token_children _ _ k c.before.before.before.before.before.before.before.is_node_lem.ensures c.if2.false)
 
 pub summarize-spec : {M : Type 1} → statement M
-summarize-spec = tie.close (tie.spec (λ c. search rules) returns is-node-requires count-of-requires kind-of-requires measure-of-requires returns-2 returns-3)
+summarize-spec =
+    tie.close
+    (tie.spec
+    (λ c. search rules)
+    returns
+    is-node-requires
+    count-of-requires
+    kind-of-requires
+    text-len-requires
+    size-of-requires
+    height-of-requires
+    hash-of-requires
+    returns-2
+    returns-3)

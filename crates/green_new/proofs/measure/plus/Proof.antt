@@ -23,14 +23,11 @@ add-len c = search rules
 add-size : tie.Need-overflow-add-size
 add-size c = search rules
 
-add-newlines : tie.Need-overflow-add-newlines
-add-newlines c = search rules
-
-add-t10 : tie.Need-overflow-add-t10
-add-t10 c = search rules
+add-t9 : tie.Need-overflow-add-t9
+add-t9 c = search rules
 
 returns : tie.Need-returns
-returns c = (addable_more c.before.before.before.before.before.before.before.before.before.before.before.before.requires.0.so_far c.before.before.before.before.before.before.before.before.before.before.before.before.requires.1 refl c.before.before.before.before.before.before.before.greater.ensures refl refl refl, added refl c.before.before.before.before.before.before.before.before.before.before.before.stays-sharable.ensures c.before.before.before.before.before.before.before.before.before.mixed.ensures c.before.before.before.before.before.before.before.greater.ensures refl refl refl)
+returns c = (addable_more c.before.before.before.before.before.before.before.before.before.before.requires.0.so_far c.before.before.before.before.before.before.before.before.before.before.requires.1 refl c.before.before.before.before.before.greater.ensures refl refl, added refl c.before.before.before.before.before.before.before.before.before.stays-sharable.ensures c.before.before.before.before.before.before.before.mixed.ensures c.before.before.before.before.before.greater.ensures refl refl)
 
 pub plus-spec : {M : Type 1} → statement M
 plus-spec =
@@ -42,6 +39,5 @@ plus-spec =
     greater-requires
     add-len
     add-size
-    add-newlines
-    add-t10
+    add-t9
     returns)

@@ -15,9 +15,6 @@ slice-write-measures-3 c = simp length-set (omega arith)
 slice-write-measures-4 : tie.Need-slice-write-measures-4
 slice-write-measures-4 c = simp length-set (omega arith)
 
-slice-write-measures-5 : tie.Need-slice-write-measures-5
-slice-write-measures-5 c = simp length-set (omega arith)
-
 same_length : tie.Need-same-length
 same_length c = simp length-set
 
@@ -40,8 +37,5 @@ remember-spec =
     (λ c. search rules)
     (λ c. search rules)
     slice-write-measures-4
-    (λ c. search rules)
-    (λ c. search rules)
-    slice-write-measures-5
     same_length
     returns)

@@ -10,7 +10,7 @@ use crate::{
 const GROWTH: u32 = 8;
 
 /// Every edit of every element by every element, at all indexes and one past the children, each
-/// followed by all records and the lines of the new ones. When edits have added some, the sheet is run again, which must not find
+/// followed by all records. When edits have added some, the sheet is run again, which must not find
 /// them, and the store is begun anew. Each accepted edit is put once more where it has just room
 /// enough, and where one record or one child place is lacking.
 pub fn calls(tree: &Tree) -> Vec<Vec<Call>> {
@@ -52,9 +52,6 @@ impl Edits<'_> {
         let before = self.recorder.model.counts();
         let reply = self.recorder.put(edit.clone());
         self.recorder.all_records();
-        for number in before.records as u32..self.recorder.record_count() {
-            self.recorder.all_lines(number);
-        }
         if let Reply::Edited {
             outcome: Ok(_),
             store,

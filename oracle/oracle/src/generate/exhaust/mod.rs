@@ -5,7 +5,7 @@ mod queries;
 pub mod texts;
 pub mod walks;
 
-pub use queries::{all_queries, lines};
+pub use queries::all_queries;
 
 use super::recorder::{Recorder, MOST};
 use crate::{
@@ -15,28 +15,10 @@ use crate::{
     sheet::SheetWriter,
 };
 
-/// What the events of a sheet can be.
-#[derive(Debug, Clone, Copy, PartialEq, Eq)]
-pub enum Alphabet {
-    /// Tokens of two kinds, an empty one, nodes of two kinds with 0 among them, a checkpoint.
-    Events,
-    /// Tokens with a newline alone, at the start, at the end and inside, with none and without a
-    /// byte.
-    Lines,
-}
+/// What an event can be: tokens of two kinds, an empty one, nodes of two kinds with 0 among them.
+const LETTERS: usize = 8;
 
-impl Alphabet {
-    const LETTERS: usize = 8;
-
-    fn letter(self, writer: SheetWriter, letter: usize) -> SheetWriter {
-        match self {
-            Alphabet::Events => event(writer, letter),
-            Alphabet::Lines => line_event(writer, letter),
-        }
-    }
-}
-
-fn event(writer: SheetWriter, letter: usize) -> SheetWriter {
+fn letter(writer: SheetWriter, letter: usize) -> SheetWriter {
     match letter {
         0 => writer.token(2, b"a"),
         1 => writer.token(3, b"b"),
@@ -49,42 +31,23 @@ fn event(writer: SheetWriter, letter: usize) -> SheetWriter {
     }
 }
 
-fn line_event(writer: SheetWriter, letter: usize) -> SheetWriter {
-    match letter {
-        0 => writer.token(2, b"a"),
-        1 => writer.token(2, b""),
-        2 => writer.token(2, b"\n"),
-        3 => writer.token(2, b"\na"),
-        4 => writer.token(2, b"a\n"),
-        5 => writer.token(2, b"a\nb"),
-        6 => writer.start(1),
-        _ => writer.finish(),
-    }
-}
-
 /// The count of sheets of up to so many events.
 pub fn sheet_count(most_events: usize) -> usize {
-    let count = |events: usize| Alphabet::LETTERS.pow(events as u32);
-    (0..=most_events).map(count).sum()
+    (0..=most_events).map(|it| LETTERS.pow(it as u32)).sum()
 }
 
 /// The runs of all sheets of up to so many events.
-pub fn all_sheets(alphabet: Alphabet, most_events: usize) -> impl Iterator<Item = Call> {
-    (0..=most_events).flat_map(move |length| {
-        let count = Alphabet::LETTERS.pow(length as u32);
-        (0..count).map(move |number| sheet_run(alphabet, number, length))
+pub fn all_sheets(most_events: usize) -> impl Iterator<Item = Call> {
+    (0..=most_events).flat_map(|length| {
+        let count = LETTERS.pow(length as u32);
+        (0..count).map(move |number| sheet_run(number, length))
     })
 }
 
 /// The run of the sheet whose letters are the digits of a number.
-fn sheet_run(alphabet: Alphabet, number: usize, length: usize) -> Call {
-    let letters = Alphabet::LETTERS;
-    let digits = (0..length).map(|place| number / letters.pow(place as u32) % letters);
-    let (sheet, text) = digits
-        .fold(SheetWriter::default(), |it, digit| {
-            alphabet.letter(it, digit)
-        })
-        .files();
+fn sheet_run(number: usize, length: usize) -> Call {
+    let digits = (0..length).map(|place| number / LETTERS.pow(place as u32) % LETTERS);
+    let (sheet, text) = digits.fold(SheetWriter::default(), letter).files();
     let each = true;
     Call::Run { each, sheet, text }
 }

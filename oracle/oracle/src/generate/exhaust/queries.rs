@@ -22,8 +22,7 @@ pub fn calls(run: &Call) -> Vec<Call> {
 }
 
 /// All queries of the tree of a root, at all paths and some that lead nowhere: all offsets and
-/// ranges and some past the end, all pairs of paths, all lines and some past the last; and what the
-/// store keeps of each record.
+/// ranges and some past the end, all pairs of paths; and what the store keeps of each record.
 pub fn all_queries(model: &Model, root: u32) -> Vec<Call> {
     let paths = all_paths(model, root);
     let past_end = model.length(root).unwrap_or(0) + 1;
@@ -39,18 +38,7 @@ pub fn all_queries(model: &Model, root: u32) -> Vec<Call> {
         calls.push(Call::Element { number });
         calls.push(Call::Mark { number });
         calls.push(Call::WhereIs { number, root });
-        calls.extend(lines(model, number));
     }
-    calls
-}
-
-/// A record's newlines, and all offsets and lines of its text; of each the first two past the end.
-pub fn lines(model: &Model, root: u32) -> Vec<Call> {
-    let length = model.length(root).unwrap_or(0);
-    let newlines = model.newlines(root).unwrap_or(0);
-    let mut calls = vec![Call::Newlines { number: root }];
-    calls.extend((0..=length + 2).map(|offset| Call::LineOf { root, offset }));
-    calls.extend((0..=newlines + 3).map(|line| Call::LineStart { root, line }));
     calls
 }
 

@@ -1,4 +1,0 @@
-pub mod Sought
-pub mod Passing
-pub mod Asking
-pub mod Seeking
