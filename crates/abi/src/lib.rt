@@ -2,6 +2,8 @@
 // eight lent words. `answer` writes them, `question` makes a question of a code and its operands, `walk` keeps a walk's
 // state in words. specs/ says which number and which words each answer is.
 
+#![tactic(auto)]
+
 pub mod answer;
 pub mod question;
 pub mod walk;

@@ -6,7 +6,7 @@ ghost use Rattle.abi.specs.Codes.{character as characterOf, coded_question, code
 use crate::Words;
 use query::question::Question;
 
-#[derive(Drop)]
+#[derive(Clone, Copy)]
 pub enum Coded {
     Question(Question),
     Unknown,

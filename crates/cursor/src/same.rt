@@ -10,7 +10,7 @@ use crate::path::{Located, Remember};
 use green::Counts;
 use utility_types::Refusal;
 
-#[derive(Drop)]
+#[derive(Clone, Copy)]
 pub enum Same {
     Told(bool),
     Refused(Refusal),

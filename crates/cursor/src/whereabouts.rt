@@ -13,13 +13,13 @@ use green::Counts;
 use utility_types::{NodeOrToken, Refusal};
 
 // How many indexes lead to an occurrence, if there is one.
-#[derive(Drop)]
+#[derive(Clone, Copy)]
 pub enum Occurrence {
     At(usize),
     Nowhere,
 }
 
-#[derive(Drop)]
+#[derive(Clone, Copy)]
 pub enum Whereabouts {
     At(usize),
     Nowhere,

@@ -14,7 +14,7 @@ use cursor::{path, position};
 use green::Counts;
 use utility_types::{Refusal, TokenAtOffset};
 
-#[derive(Drop)]
+#[derive(Clone, Copy)]
 pub enum Tokens {
     At(TokenAtOffset),
     Refused(Refusal),

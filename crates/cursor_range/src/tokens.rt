@@ -12,7 +12,7 @@ use green::Counts;
 use utility_types::NodeOrToken;
 
 // The children of a node that are not empty and whose closed range holds an offset, by their indexes.
-#[derive(Drop)]
+#[derive(Clone, Copy)]
 enum Touching {
     NoChild,
     Child(usize),
@@ -20,7 +20,7 @@ enum Touching {
 }
 
 // The tokens that are found; the indexes that lead to them are lent beside.
-#[derive(Drop)]
+#[derive(Clone, Copy)]
 pub enum Hits {
     Nothing,
     Single(Cursor),

@@ -13,7 +13,7 @@ use utility_types::{Made, number};
 
 // A node, or a path's root and how many indexes it has; a range of the node's children, or an index as its start; and a new
 // element, or of a splice how many there are. The path and a splice's new elements lie in lent places.
-#[derive(Drop)]
+#[derive(Clone, Copy)]
 struct Edit {
     ok: bool,
     of: usize,

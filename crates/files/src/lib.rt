@@ -15,7 +15,7 @@ pub fn tell(about: &[u8], what: &[u8]) {
     io::write_all(STDERR_FILENO, b"\n");
 }
 
-#[derive(Drop)]
+#[derive(Clone, Copy)]
 pub struct Read {
     pub ok: bool,
     pub count: usize,

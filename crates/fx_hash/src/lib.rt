@@ -1,4 +1,7 @@
 // Stands for the crate rustc-hash: a hash of 64 bits takes a word at a time. rowan finds by it what it shares.
+
+#![tactic(auto)]
+
 ghost use Rattle.std.specs.Prelude.{◌≡◌, ◌*◌, ◌%◌, ◌^◌};
 ghost use Rattle.definitions.specs.Hash.{rotate_left5, add_word};
 

@@ -8,7 +8,7 @@ ghost use Rattle.green.specs.Answers.{looked_up, element_of, summarized, fields_
 use crate::{Counts, record};
 use utility_types::{NodeOrToken, Refusal, SyntaxKind};
 
-#[derive(Drop)]
+#[derive(Clone, Copy)]
 pub enum Lookup {
     Element(NodeOrToken),
     Refused(Refusal),
@@ -28,7 +28,7 @@ pub fn element(records: &[u64], children: &[u64], text: &[u8], used: &Counts, n:
     Lookup::Element(NodeOrToken::Token(n))
 }
 
-#[derive(Drop)]
+#[derive(Clone, Copy)]
 pub struct Summary {
     pub is_node: bool,
     pub kind: SyntaxKind,
@@ -39,7 +39,7 @@ pub struct Summary {
     pub children: usize,
 }
 
-#[derive(Drop)]
+#[derive(Clone, Copy)]
 pub enum Summarized {
     Of(Summary),
     Refused(Refusal),

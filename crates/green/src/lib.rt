@@ -2,6 +2,8 @@
 // `element` and `node` take any number; `record` has the words, and `token` the bytes, of one that is known.
 // specs/ says which entries they spell (Store) and when they are in order (Valid).
 
+#![tactic(auto)]
+
 pub mod element;
 pub mod node;
 pub mod record;

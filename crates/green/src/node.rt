@@ -12,7 +12,7 @@ use crate::{Counts, element, record};
 use utility_types::{NodeOrToken, Refusal};
 
 // A child of a node: its number, and its offset in the node (rowan's rel_offset).
-#[derive(Drop)]
+#[derive(Clone, Copy)]
 pub struct Child {
     pub number: usize,
     pub offset: usize,
@@ -39,7 +39,7 @@ pub fn nth_child(
     }
 }
 
-#[derive(Drop)]
+#[derive(Clone, Copy)]
 pub enum ChildAt {
     Found(Child),
     Refused(Refusal),

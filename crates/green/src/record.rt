@@ -95,7 +95,7 @@ pub fn hash_of(records: &[u64], children: &[u64], text: &[u8], used: &Counts, n:
 }
 
 // What every record keeps of its element, for the node above it.
-#[derive(Drop)]
+#[derive(Clone, Copy)]
 pub struct Measure {
     pub len: usize,
     pub size: usize,
@@ -123,7 +123,7 @@ pub fn measure_of(
 }
 
 // What a new record keeps of its element; the tag is 0 for a token, 1 for a node that an event makes, 2 for a node that an edit makes.
-#[derive(Drop)]
+#[derive(Clone, Copy)]
 pub struct Header {
     pub kind: SyntaxKind,
     pub tag: u8,

@@ -16,7 +16,7 @@ use green::{Counts, node, record};
 use utility_types::{SyntaxKind, number};
 
 // A node over the children that were added: how many they are, whether it is sharable, and its measure.
-#[derive(Drop)]
+#[derive(Clone, Copy)]
 pub struct Over {
     pub count: usize,
     pub is_sharable: bool,

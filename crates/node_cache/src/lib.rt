@@ -1,6 +1,8 @@
 // rowan's green/node_cache.rs: an event's element is found among those that events made, or made.
 // The search is behind two functions of `search`, whose contracts name the entry that is reused.
 
+#![tactic(auto)]
+
 ghost use Rattle.std.specs.Prelude.{◌≡◌, true};
 ghost use Rattle.definitions.specs.Entry.{token_entry, node_entry};
 ghost use Rattle.definitions.specs.NodeCache.{share};
@@ -28,7 +30,7 @@ fn has_event_room(
     requires { Valid (here records children text used) }
     ensures { result ≡ has_room (entered records children text used) 1 places bytes }
 {
-    limits::has_room_lem(records, children, text, used, 1, places, bytes)
+    limits::has_room(records, children, text, used, 1, places, bytes)
 }
 
 // A token event.

@@ -15,7 +15,7 @@ use green::{Counts, node, record, token};
 use green_new::measure::Over;
 use utility_types::{SyntaxKind, number};
 
-#[derive(Drop)]
+#[derive(Clone, Copy)]
 pub enum Search {
     Found(usize),
     Missing,

@@ -4,6 +4,8 @@
 // A call that writes is put to a store that some list of calls led to, and carries that list on: it is one of demand 3's history. What a
 // step of a walk or of chunks ensures is one call of the theorem's lists.
 
+#![tactic(auto)]
+
 pub mod elements;
 pub mod questions;
 pub mod steps;

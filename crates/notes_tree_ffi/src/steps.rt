@@ -126,7 +126,7 @@ pub extern "C" fn notes_next_chunk(
     words: &mut Words,
 ) -> usize
     requires valid { Valid (here records children text used) }
-    requires chunk_kept_lem { ChunkKept (here records children text used) root depth path.now start end (chunk_given state.old) place.old (chunk_kept state.old) }
+    requires chunk_kept { ChunkKept (here records children text used) root depth path.now start end (chunk_given state.old) place.old (chunk_kept state.old) }
     ensures { ChunkGives (entered records children text used) root depth path.now start end (list state) (list place) text.now (list words) result }
 {
     show(state);

@@ -103,7 +103,7 @@ fn put(
 }
 
 // A slot, and of call 43 how many steps are asked for.
-#[derive(Drop)]
+#[derive(Clone, Copy)]
 struct Steps {
     ok: bool,
     slot: usize,

@@ -9,7 +9,7 @@ use query::reply::Reply;
 
 // Whether the call's words are there, and whether a text is in each slot that it reads; then a question, and the root and the
 // depth of the lent path that it is put to. A walk or a text that comes back is for `slot`.
-#[derive(Drop)]
+#[derive(Clone, Copy)]
 pub struct Asked {
     pub ok: bool,
     pub is_there: bool,

@@ -73,7 +73,7 @@ fn by_number(call: Call) -> Asked
 }
 
 // What a call asks of its path alone, if it is one of those that do.
-#[derive(Drop)]
+#[derive(Clone, Copy)]
 enum OfPath {
     Asks(Question),
     Nothing,

@@ -7,7 +7,7 @@ use crate::slots;
 use crate::slots::Slots;
 
 // The text in a slot; with no text there the rest means nothing.
-#[derive(Drop)]
+#[derive(Clone, Copy)]
 pub struct Text {
     pub is_there: bool,
     pub root: usize,

@@ -8,7 +8,7 @@ use crate::slots::Slots;
 use preorder::state::Coming;
 
 // The walk in a slot; with no walk there the rest is as of a new one.
-#[derive(Drop)]
+#[derive(Clone, Copy)]
 pub struct Walk {
     pub is_there: bool,
     pub root: usize,

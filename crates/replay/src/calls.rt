@@ -16,7 +16,7 @@ use utility_types::number;
 
 // Why a store's calls are over: the script asks for another store, or nothing more can be read of it. The next call's
 // ordinal, and how many words of the longest script are left.
-#[derive(Drop)]
+#[derive(Clone, Copy)]
 pub struct After {
     pub more: bool,
     pub store: Store,

@@ -6,7 +6,7 @@ use crate::call::{Call, complain, fill_whole};
 use crate::words::{misfit, take_word};
 
 // The bytes were put at the start of a buffer; `left` of the call's words come after them.
-#[derive(Drop)]
+#[derive(Clone, Copy)]
 pub struct Bytes {
     pub ok: bool,
     pub count: usize,

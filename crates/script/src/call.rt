@@ -11,7 +11,7 @@ pub const MOST_WORDS: usize = 250000;
 
 // A call of an open script: its ordinal from 0 and the byte where it starts, for complaints, its number, and how many words
 // of arguments follow.
-#[derive(Drop)]
+#[derive(Clone, Copy)]
 pub struct Call {
     pub fd: i32,
     pub ordinal: usize,
@@ -31,7 +31,7 @@ pub fn complain(call: Call, what: &[u8]) -> bool {
 }
 
 // What was read: all that was asked for, nothing since the script is over, or too little.
-#[derive(Drop)]
+#[derive(Clone, Copy)]
 enum Got {
     Whole,
     Nothing,
@@ -64,7 +64,7 @@ pub fn fill_whole(call: Call, buf: &mut [u8]) -> bool {
 }
 
 // The next call, if there is one. `left` words of the longest script are left after it.
-#[derive(Drop)]
+#[derive(Clone, Copy)]
 pub struct Head {
     pub more: bool,
     pub call: Call,

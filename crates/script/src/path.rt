@@ -7,7 +7,7 @@ use crate::words::{has_words, misfit, pass_over, read_words, take_word};
 use utility_types::number;
 
 // A path whose first 64 indexes were put into a lent place; `left` of the call's words come after it.
-#[derive(Drop)]
+#[derive(Clone, Copy)]
 pub struct Path {
     pub ok: bool,
     pub root: usize,

@@ -4,7 +4,7 @@ use crate::call::{Call, fill_whole};
 use utility_types::number;
 
 // How many records, child places and text bytes.
-#[derive(Drop)]
+#[derive(Clone, Copy)]
 pub struct Store {
     pub records: usize,
     pub children: usize,
@@ -21,7 +21,7 @@ pub fn first_store() -> Store {
 }
 
 // The store that call 1 asks for, if its words are there.
-#[derive(Drop)]
+#[derive(Clone, Copy)]
 pub struct Asked {
     pub ok: bool,
     pub store: Store,

@@ -7,7 +7,7 @@ use crate::call::{Call, complain, fill_whole};
 use utility_types::number;
 
 // One word of a call's arguments, if it came.
-#[derive(Drop)]
+#[derive(Clone, Copy)]
 pub struct Word {
     pub ok: bool,
     pub value: usize,
@@ -25,7 +25,7 @@ pub fn read_word(call: Call) -> Word
 }
 
 // The same of a call with `m` words left; `left` of them come after it.
-#[derive(Drop)]
+#[derive(Clone, Copy)]
 pub struct Taken {
     pub ok: bool,
     pub value: usize,

@@ -1,30 +1,32 @@
 // rowan's utility_types.rs, and the types of the answers that every crate above shares.
 // `number` has numbers of other widths. specs/ says of each what document 01 means by it.
 
+#![tactic(auto)]
+
 ghost use Rattle.std.specs.Prelude.{◌≡◌};
 ghost use Rattle.utility_types.specs.Numbers.{refusal_number};
 
 pub mod number;
 
 // A kind, as in rowan: a number of 16 bits, told apart from other numbers by its type.
-#[derive(Drop)]
+#[derive(Clone, Copy)]
 pub struct SyntaxKind(pub u16);
 
 // Which of the two a record's number names.
-#[derive(Drop)]
+#[derive(Clone, Copy)]
 pub enum NodeOrToken {
     Node(usize),
     Token(usize),
 }
 
-#[derive(Drop)]
+#[derive(Clone, Copy)]
 pub enum Direction {
     Next,
     Prev,
 }
 
 // An element as answers name it. Its path is beside it: the first `depth` indexes of the path that the caller lent.
-#[derive(Drop)]
+#[derive(Clone, Copy)]
 pub struct SyntaxElement {
     pub is_node: bool,
     pub kind: SyntaxKind,
@@ -34,7 +36,7 @@ pub struct SyntaxElement {
 }
 
 // One step of a walk.
-#[derive(Drop)]
+#[derive(Clone, Copy)]
 pub enum WalkEvent {
     // before the element's children
     Enter(SyntaxElement),
@@ -43,7 +45,7 @@ pub enum WalkEvent {
 }
 
 // There may be no, one or two tokens at an offset.
-#[derive(Drop)]
+#[derive(Clone, Copy)]
 pub enum TokenAtOffset {
     None,
     Single(SyntaxElement),
@@ -52,7 +54,7 @@ pub enum TokenAtOffset {
 }
 
 // Why a call is turned down; a refused call changes nothing.
-#[derive(Drop)]
+#[derive(Clone, Copy)]
 pub enum Refusal {
     // because of the input
     Malformed,
@@ -91,7 +93,7 @@ pub fn refusal_number(r: Refusal) -> u64
 }
 
 // What a call that makes records answers: the number of its element, or why it is turned down.
-#[derive(Drop)]
+#[derive(Clone, Copy)]
 pub enum Made {
     Number(usize),
     Refused(Refusal),
