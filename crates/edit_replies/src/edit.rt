@@ -1,7 +1,7 @@
 // Calls 10 to 14. A call's words are read first, and then it is put to the port, and then its reply is printed.
 
 ghost use Rattle.std.specs.Prelude.{◌≤◌, length};
-ghost use Rattle.green.specs.Store.{here};
+ghost use Rattle.green.specs.Store.{store};
 ghost use Rattle.green.specs.Valid.{Valid};
 
 use files::out::Buffer;
@@ -132,8 +132,8 @@ fn edit_child(
     op: u32,
     it: Edit,
 ) -> Made
-    requires { Valid (here records children text used) }
-    ensures { Valid (here records.exit children.exit text.entry used.exit) }
+    requires { Valid (store records.old children.old text.now used.old) }
+    ensures { Valid (store records.new children.new text.now used.new) }
 {
     match op {
         10 => edits::replace_child(records, children, text, used, it.of, it.start, it.new),
@@ -152,8 +152,8 @@ fn make(
     path: &[u32; 64],
     new: &[u32],
 ) -> Made
-    requires { Valid (here records children text used) }
-    ensures { Valid (here records.exit children.exit text.entry used.exit) }
+    requires { Valid (store records.old children.old text.now used.old) }
+    ensures { Valid (store records.new children.new text.now used.new) }
 {
     match op {
         13 => edits::splice_children(records, children, text, used, it.of, it.start, it.end, new),
@@ -173,8 +173,8 @@ pub fn answer(
     text: &[u8],
     used: &mut Counts,
 ) -> bool
-    requires { Valid (here records children text used) }
-    ensures { Valid (here records.exit children.exit text.entry used.exit) }
+    requires { Valid (store records.old children.old text.now used.old) }
+    ensures { Valid (store records.new children.new text.now used.new) }
 {
     let mut path = [0u32; 64];
     let mut new = [0u32; 4200];

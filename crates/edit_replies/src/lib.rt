@@ -1,6 +1,6 @@
 // What `replay` answers to the calls of a script that make records: the run of a sheet, in `runs`, and edits, in `edit`.
 
-ghost use Rattle.green.specs.Store.{here};
+ghost use Rattle.green.specs.Store.{store};
 ghost use Rattle.green.specs.Valid.{Valid};
 
 use files::out::Buffer;
@@ -19,8 +19,8 @@ pub fn answer(
     text: &mut [u8],
     used: &mut Counts,
 ) -> bool
-    requires { Valid (here records children text used) }
-    ensures { Valid (here records.exit children.exit text.exit used.exit) }
+    requires { Valid (store records.old children.old text.old used.old) }
+    ensures { Valid (store records.new children.new text.new used.new) }
 {
     if call.op < 10 {
         return runs::answer(call, out, records, children, text, used);

@@ -1,6 +1,6 @@
 // Calls 2 and 3: the run of a sheet, each with a builder of its own.
 
-ghost use Rattle.green.specs.Store.{here, stores};
+ghost use Rattle.green.specs.Store.{stores, store};
 ghost use Rattle.green.specs.Valid.{Valid};
 ghost use Rattle.sheet_run.specs.RunDone.{RunDone};
 
@@ -23,7 +23,7 @@ fn run_each(
     sheet: &[u8],
     source: &[u8],
 ) -> Ended
-    requires { Valid (here records children text used) }
+    requires { Valid (store records.old children.old text.old used.old) }
     ensures { RunDone (stores records children text used) sheet.now source.now result }
 {
     if format::is_malformed(sheet, source) {
@@ -83,8 +83,8 @@ fn put_run(
     source: &[u8],
     op: u32,
 )
-    requires { Valid (here records children text used) }
-    ensures { Valid (here records.exit children.exit text.exit used.exit) }
+    requires { Valid (store records.old children.old text.old used.old) }
+    ensures { Valid (store records.new children.new text.new used.new) }
 {
     if op == 2 {
         let mut yields = [0u32; 4096];
@@ -105,8 +105,8 @@ pub fn answer(
     text: &mut [u8],
     used: &mut Counts,
 ) -> bool
-    requires { Valid (here records children text used) }
-    ensures { Valid (here records.exit children.exit text.exit used.exit) }
+    requires { Valid (store records.old children.old text.old used.old) }
+    ensures { Valid (store records.new children.new text.new used.new) }
 {
     // the longest of a script, in whole words
     let mut sheet = [0u8; 33000];

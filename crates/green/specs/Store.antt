@@ -1,7 +1,7 @@
 -- The store: four lent places, and the list of entries that they spell.
 use Rattle.std.specs.Prelude.{ℕ, zero, suc, ◌+◌, ◌*◌, ◌/◌, ◌%◌, ◌^◌, ◌≡◌, List, [], ◌∷◌, ◌++◌, map, true, false, length, get_or, drop}
 use Rattle.std.proofs.Math.Seq.{slice}
-use Rattle.std.specs.Borrow.{Bor}
+use Rattle.std.specs.Borrow.{Bor, MutBor}
 use denote.Triple.Both.{Both}
 use Rattle.definitions.specs.Entry.{Entry, token_entry, node_entry, Lent, Limits, within}
 
@@ -29,13 +29,13 @@ entered r c t u = here r.entry c.entry t.entry u.entry
 
 -- and both: as it was called, and as it returns
 abbrev pub Lists : Type 0
-Lists = Both (Bor (List ℕ)) (Bor (List ℕ))
+Lists = Both (MutBor (List ℕ)) (MutBor (List ℕ))
 
 abbrev pub both : {A : Type 0} → A → A → Both A A
 both a a' = record { entry = a; exit = a' }
 
 abbrev pub stores : Lists → Lists → Lists → Lists → Both Store Store
-stores r c t u = both (here r.entry c.entry t.entry u.entry) (here r.exit c.exit t.exit u.exit)
+stores r c t u = both (store r.entry.now c.entry.now t.entry.now u.entry.now) (store r.exit.now c.exit.now t.exit.now u.exit.now)
 
 abbrev pub lent : Store → Lent
 lent s = record { records = length s.records / 8; children = length s.children; text = length s.text }

@@ -6,7 +6,7 @@
 ghost use Rattle.std.specs.Prelude.{◌≡◌, true};
 ghost use Rattle.definitions.specs.Entry.{token_entry, node_entry};
 ghost use Rattle.definitions.specs.NodeCache.{share};
-ghost use Rattle.green.specs.Store.{here, entered, entries, stores};
+ghost use Rattle.green.specs.Store.{here, entered, entries, both, store};
 ghost use Rattle.green.specs.Valid.{AllEvents, Valid};
 ghost use Rattle.green_new.specs.Ready.{has_room};
 ghost use Rattle.green_new.specs.Done.{Does};
@@ -42,8 +42,8 @@ pub fn token(
     kind: SyntaxKind,
     src: &[u8],
 ) -> Made
-    requires { Valid (here records children text used) }
-    ensures { Does (stores records children text used) (λ l es. share l es (token_entry kind.0 src.now)) result }
+    requires { Valid (store records.old children.now text.old used.old) }
+    ensures { Does (both (store records.old children.now text.old used.old) (store records.new children.now text.new used.new)) (λ l es. share l es (token_entry kind.0 src.now)) result }
 {
     let x = measure::of_token(kind, src);
     let found = search::find_token(records, children, text, used, kind, src, x.hash);
@@ -70,8 +70,8 @@ pub fn node(
     kind: SyntaxKind,
     numbers: &[u32],
 ) -> Made
-    requires { Valid (here records children text used) × AllEvents (entries (here records children text used)) numbers.now }
-    ensures { Does (stores records children text used) (λ l es. share l es (node_entry true es kind.0 numbers.now)) result }
+    requires { Valid (store records.old children.old text.now used.old) × AllEvents (entries (store records.old children.old text.now used.old)) numbers.now }
+    ensures { Does (both (store records.old children.old text.now used.old) (store records.new children.new text.now used.new)) (λ l es. share l es (node_entry true es kind.0 numbers.now)) result }
 {
     let count = numbers.len();
     if 4096 < count {

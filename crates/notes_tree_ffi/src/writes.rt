@@ -1,6 +1,6 @@
 // The calls that write a store: the run of a sheet, and one edit.
 
-ghost use Rattle.green.specs.Store.{here, stores};
+ghost use Rattle.green.specs.Store.{here, stores, both, store};
 ghost use Rattle.sheet_run.specs.RunDone.{list};
 ghost use Rattle.notes_tree_ffi.specs.Goes.{HasHistory};
 ghost use Rattle.notes_tree_ffi.specs.Exports.{RunExported, edit_of, EditExported};
@@ -46,8 +46,8 @@ pub extern "C" fn notes_edit(
     path: &[u32; 64],
     words: &mut Words,
 ) -> usize
-    requires { HasHistory (here records children text used) }
-    ensures { EditExported (stores records children text used) (edit_of code number from to news.now path.now) (list words) result }
+    requires { HasHistory (store records.old children.old text.now used.old) }
+    ensures { EditExported (both (store records.old children.old text.now used.old) (store records.new children.new text.now used.new)) (edit_of code number from to news.now path.now) (list words) result }
 {
     match code {
         0 => {

@@ -1,7 +1,7 @@
 // The calls on one store.
 
 ghost use Rattle.std.specs.Prelude.{◌≡◌, ◌<◌, true, false};
-ghost use Rattle.green.specs.Store.{here};
+ghost use Rattle.green.specs.Store.{store};
 ghost use Rattle.green.specs.Valid.{Valid};
 
 use files::out;
@@ -66,8 +66,8 @@ fn answer(
     used: &mut Counts,
     slots: &mut Slots,
 ) -> bool
-    requires { Valid (here records children text used) }
-    ensures { Valid (here records.exit children.exit text.exit used.exit) }
+    requires { Valid (store records.old children.old text.old used.old) }
+    ensures { Valid (store records.new children.new text.new used.new) }
 {
     let op = call.op;
     match op {
