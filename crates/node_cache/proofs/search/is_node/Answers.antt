@@ -1,0 +1,27 @@
+-- `is_node` meets its contract.
+use Rattle.node_cache.proofs.SameNode.{other_hash, other_tag, other_kind, a_node, by_children}
+use Rattle.node_cache.proofs.search.is_node.Goals as goal
+
+pub hash_of-requires : goal.hash_of-requires
+hash_of-requires c = c.requires.known
+
+pub returns-then-hash_of-hash : goal.returns-then-hash_of-hash
+returns-then-hash_of-hash c = other_hash c.requires.known c.requires.node_sought c.hash_of.ensures c.if-hash_of-hash.true
+
+pub tag_of-requires : goal.tag_of-requires
+tag_of-requires c = c.requires.known
+
+pub returns-then-tag_of-ne1 : goal.returns-then-tag_of-ne1
+returns-then-tag_of-ne1 c = other_tag c.requires.known c.requires.node_sought c.tag_of.ensures c.if-tag_of-ne1.true
+
+pub kind_of-its-requires : goal.kind_of-its-requires
+kind_of-its-requires c = c.requires.known
+
+pub returns-then-its-kind : goal.returns-then-its-kind
+returns-then-its-kind c = other_kind c.requires.known c.requires.node_sought c.kind_of-its.ensures c.if-its-kind.true
+
+pub same_children-requires : goal.same_children-requires
+same_children-requires c = a_node c.requires.known c.requires.node_sought c.tag_of.ensures c.if-tag_of-ne1.false
+
+pub returns : goal.returns
+returns c = by_children c.requires.known c.requires.node_sought c.tag_of.ensures c.if-tag_of-ne1.false c.kind_of-its.ensures c.if-its-kind.false c.same_children.ensures

@@ -1,0 +1,24 @@
+-- `next_alike` meets its contract.
+use Prim.Native.Nat.{◌-◌}
+use native.Mathlib.Omega.{arith}
+use Rattle.green.proofs.Known.{number_bound, known, count_records}
+use Rattle.node_cache.proofs.Seeking.{none_passed, other_passed, stop_alike, stop_end}
+use Rattle.node_cache.proofs.search.next_alike.Goals as goal
+
+pub loop-i-init : goal.loop-i-init
+loop-i-init c = none_passed
+
+pub hash_of-requires : goal.hash_of-requires
+hash_of-requires c = known _ c.requires _ c.loop-i-test.true
+
+pub returns-then-hash_of-hash : goal.returns-then-hash_of-hash
+returns-then-hash_of-hash c = stop_alike c.loop-i.invariant (known _ c.requires _ c.loop-i-test.true).within c.hash_of.ensures c.if-hash_of-hash.true
+
+pub overflow_add-i : goal.overflow_add-i
+overflow_add-i c = omega (arith, number_bound _ _ (known _ c.requires _ c.loop-i-test.true))
+
+pub loop-i-preserved : goal.loop-i-preserved
+loop-i-preserved c = other_passed c.loop-i.invariant (known _ c.requires _ c.loop-i-test.true).within c.hash_of.ensures c.if-hash_of-hash.false
+
+pub returns : goal.returns
+returns c = stop_end c.loop-i.invariant (omega (arith, count_records _ c.requires, c.loop-i-test.false))
