@@ -16,13 +16,13 @@ pub returns-in-Found : goal.returns-in-Found
 returns-in-Found c = event_found c.requires.0 (node_entry true _ c.args.kind.0 c.args.numbers.now) _ c.find_node-found.ensures c.in-Found.is
 
 pub returns-then-not-is_within : goal.returns-then-not-is_within
-returns-then-not-is_within c = node_large c.requires.0 _ _ _ c.find_node-found.ensures c.in_default.is (omega (arith, c.if-count-gt4096.false)) c.over_children-over.ensures.measure c.before.is_Within.ensures c.if-not-is_within.true-raw
+returns-then-not-is_within c = node_large c.requires.0 _ _ _ c.find_node-found.ensures c.in_default.is (omega (arith, c.if-count-gt4096.false)) c.over_children-over.ensures.measure c.is_within.ensures c.if-not-is_within.true-raw
 
 pub returns-then-not-has_event_room : goal.returns-then-not-has_event_room
-returns-then-not-has_event_room c = node_full c.requires.0 _ _ _ c.find_node-found.ensures c.in_default.is (omega (arith, c.if-count-gt4096.false)) c.over_children-over.ensures.measure c.before.before.before.before.before.before.is_Within.ensures c.if-not-is_within.false-raw c.has_event_room.ensures c.if-not-has_event_room.true-raw
+returns-then-not-has_event_room c = node_full c.requires.0 _ _ _ c.find_node-found.ensures c.in_default.is (omega (arith, c.if-count-gt4096.false)) c.over_children-over.ensures.measure c.is_within.ensures c.if-not-is_within.false-raw c.has_event_room.ensures c.if-not-has_event_room.true-raw
 
 pub push_node-requires : goal.push_node-requires
-push_node-requires c = node_ready c.requires.0 _ _ _ c.find_node-found.ensures c.in_default.is (omega (arith, c.if-count-gt4096.false)) c.over_children-over.ensures.measure c.before.before.before.before.before.before.before.before.before.before.is_Within.ensures c.if-not-is_within.false-raw c.has_event_room.ensures c.if-not-has_event_room.false-raw c.requires.1
+push_node-requires c = node_ready c.requires.0 _ _ _ c.find_node-found.ensures c.in_default.is (omega (arith, c.if-count-gt4096.false)) c.over_children-over.ensures.measure c.is_within.ensures c.if-not-is_within.false-raw c.has_event_room.ensures c.if-not-has_event_room.false-raw c.requires.1
 
 pub returns : goal.returns
-returns c = node_made c.requires.0 _ _ _ c.find_node-found.ensures c.in_default.is (omega (arith, c.if-count-gt4096.false)) c.over_children-over.ensures.measure c.before.before.before.before.before.before.before.before.before.before.before.before.before.before.before.is_Within.ensures c.if-not-is_within.false-raw c.has_event_room.ensures c.if-not-has_event_room.false-raw c.push_node.ensures
+returns c = node_made c.requires.0 _ _ _ c.find_node-found.ensures c.in_default.is (omega (arith, c.if-count-gt4096.false)) c.over_children-over.ensures.measure c.is_within.ensures c.if-not-is_within.false-raw c.has_event_room.ensures c.if-not-has_event_room.false-raw c.push_node.ensures

@@ -38,7 +38,7 @@ pub measure_spliced-measure-requires : goal.measure_spliced-measure-requires
 measure_spliced-measure-requires c = record { splices = (range c.requires c.args.n c.args.from c.args.to c.args.new.now c.if-used-n.false c.is_node.ensures c.if-not-is_node.false-raw c.are_elements.ensures c.if-not-are_elements.false-raw c.count_of-old.ensures c.if-to-from.false c.if-old-to.false, new_below c.requires c.args.n c.args.from c.args.to c.args.new.now c.if-used-n.false c.is_node.ensures c.if-not-is_node.false-raw c.are_elements.ensures c.if-not-are_elements.false-raw c.count_of-old.ensures c.if-to-from.false c.if-old-to.false); count_value = (count_is c.requires c.args.n c.args.from c.args.to c.args.new.now c.if-used-n.false c.is_node.ensures c.if-not-is_node.false-raw c.are_elements.ensures c.if-not-are_elements.false-raw c.count_of-old.ensures c.if-to-from.false c.if-old-to.false, c.if-count-gt4096.false) }
 
 pub returns-then-not-is_within : goal.returns-then-not-is_within
-returns-then-not-is_within c = too_large c.requires c.args.n c.args.from c.args.to c.args.new.now c.if-used-n.false c.is_node.ensures c.if-not-is_node.false-raw c.are_elements.ensures c.if-not-are_elements.false-raw c.count_of-old.ensures c.if-to-from.false c.if-old-to.false c.measure_spliced-measure.ensures (c.before.is_Within.ensures _ c.if-count-gt4096.false) c.if-not-is_within.true-raw
+returns-then-not-is_within c = too_large c.requires c.args.n c.args.from c.args.to c.args.new.now c.if-used-n.false c.is_node.ensures c.if-not-is_node.false-raw c.are_elements.ensures c.if-not-are_elements.false-raw c.count_of-old.ensures c.if-to-from.false c.if-old-to.false c.measure_spliced-measure.ensures (c.is_within.ensures _ c.if-count-gt4096.false) c.if-not-is_within.true-raw
 
 pub returns : goal.returns
-returns c = fits c.requires c.args.n c.args.from c.args.to c.args.new.now c.if-used-n.false c.is_node.ensures c.if-not-is_node.false-raw c.are_elements.ensures c.if-not-are_elements.false-raw c.count_of-old.ensures c.if-to-from.false c.if-old-to.false c.measure_spliced-measure.ensures (c.before.is_Within.ensures _ c.if-count-gt4096.false) c.if-not-is_within.false-raw
+returns c = fits c.requires c.args.n c.args.from c.args.to c.args.new.now c.if-used-n.false c.is_node.ensures c.if-not-is_node.false-raw c.are_elements.ensures c.if-not-are_elements.false-raw c.count_of-old.ensures c.if-to-from.false c.if-old-to.false c.measure_spliced-measure.ensures (c.is_within.ensures _ c.if-count-gt4096.false) c.if-not-is_within.false-raw
