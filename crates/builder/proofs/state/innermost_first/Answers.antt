@@ -1,0 +1,10 @@
+-- `innermost_first` meets its contract.
+use mathlib.Core.Path.{◌∙◌}
+use Rattle.builder.proofs.Parents.{innermost_none, innermost_last}
+use Rattle.builder.proofs.state.innermost_first.Goals as goal
+
+pub returns-then-open-eq0 : goal.returns-then-open-eq0
+returns-then-open-eq0 c = innermost_none c.requires c.if-open-eq0.true
+
+pub returns : goal.returns
+returns c = c.widen.ensures.0 ∙ innermost_last c.requires c.if-open-eq0.false

@@ -1,0 +1,8 @@
+use Prim.Native.Nat.{◌+◌, ◌*◌}
+use Rattle.definitions.specs.Tree.{height}
+use Rattle.definitions.specs.Entry.{tree_at}
+use Rattle.green.specs.Store.{store, entries}
+use Rattle.cursor_range.proofs.tokens.+element_tokens_node_tokens.Given as goal
+
+abbrev pub decreases-node_tokens : goal.decreases-node_tokens
+decreases-node_tokens l = 2 * height (tree_at (entries (store l.records.now l.children.now l.text.now l.used.now)) l.at.number) + 1

@@ -1,0 +1,57 @@
+-- `next_edge` meets its contract.
+use native.Mathlib.Omega.{arith}
+use mathlib.Core.Path.{refl}
+use Rattle.utility_types.specs.declared.Direction.TheVariants.{Next}
+use lib.ListN.{length-set}
+use Rattle.cursor.proofs.Positions.{count_most, level_there, inner, leaf}
+use Rattle.cursor_token.proofs.Edges.{at_childless, edge_of, below_none, below_found, below_leaf}
+use Rattle.cursor_token.proofs.Tokens.{token_placed, below_none_told, below_told}
+use Rattle.cursor_token.proofs.adjacent.next_edge.Goals as goal
+
+pub overflow_cast-path : goal.overflow_cast-path
+overflow_cast-path c = omega (arith, c.requires.inner.1, count_most c.requires.inner.0)
+
+pub returns-in_default : goal.returns-in_default
+returns-in_default c = below_told (below_leaf Next _ c.child-beside.ensures (leaf c.child-beside.ensures.placed c.node_or_token.ensures c.in_default.is) c.requires.in_bounds) refl c.syntax_element.ensures
+
+pub child_count-count-requires : goal.child_count-count-requires
+child_count-count-requires c = inner c.child-beside.ensures.placed c.node_or_token.ensures c.in-Node.is
+
+pub returns-then-count-eq0 : goal.returns-then-count-eq0
+returns-then-count-eq0 c = below_none_told (below_none c.child-beside.ensures (at_childless Next _ (inner c.child-beside.ensures.placed c.node_or_token.ensures c.in-Node.is) c.child_count-count.ensures.0 c.if-count-eq0.true) refl) refl
+
+pub child-below-requires : goal.child-below-requires
+child-below-requires c = record { inner = inner c.child-beside.ensures.placed c.node_or_token.ensures c.in-Node.is; k_bound = omega (arith, c.edge_index-i.ensures.1, c.child_count-count.ensures.0) }
+
+pub bounds-path-lower : goal.bounds-path-lower
+bounds-path-lower c = level_there c.child-below.ensures c.requires.in_bounds
+
+pub overflow_cast-path-in_default-node_or_token-2 : goal.overflow_cast-path-in_default-node_or_token-2
+overflow_cast-path-in_default-node_or_token-2 c = omega (arith, c.requires.inner.1, count_most c.requires.inner.0)
+
+pub bounds-path-level-in_default-node_or_token : goal.bounds-path-level-in_default-node_or_token
+bounds-path-level-in_default-node_or_token c = level_there c.child-beside.ensures (simp length-set c.requires.in_bounds)
+
+pub returns-in_default-node_or_token : goal.returns-in_default-node_or_token
+returns-in_default-node_or_token c = below_told (below_found c.child-beside.ensures (edge_of (inner c.child-beside.ensures.placed c.node_or_token.ensures c.in-Node.is) c.child_count-count.ensures.0 c.edge_index-i.ensures.0 (below_leaf Next _ c.child-below.ensures (leaf c.child-below.ensures.placed c.node_or_token-2.ensures c.in_default-node_or_token.is) c.requires.in_bounds)) refl (simp length-set c.requires.in_bounds)) refl c.syntax_element-in_default-node_or_token.ensures
+
+pub edge_token-edge-requires : goal.edge_token-edge-requires
+edge_token-edge-requires c = (c.child-beside.ensures.placed, c.requires.in_bounds)
+
+pub returns-in_default-edge : goal.returns-in_default-edge
+returns-in_default-edge c = below_none_told (below_none c.child-beside.ensures c.edge_token-edge.ensures c.in_default-edge.is) refl
+
+pub overflow_cast-path-2 : goal.overflow_cast-path-2
+overflow_cast-path-2 c = omega (arith, c.requires.inner.1, count_most c.requires.inner.0)
+
+pub offset_bounds-path-level-2 : goal.offset_bounds-path-level-2
+offset_bounds-path-level-2 c = omega (arith, c.child-beside.ensures.depth, c.child-beside.ensures.placed.deep)
+
+pub bounds-path-level-2 : goal.bounds-path-level-2
+bounds-path-level-2 c = level_there c.child-beside.ensures (omega (arith, c.requires.in_bounds, c.path-1.given))
+
+pub syntax_element-requires-2 : goal.syntax_element-requires-2
+syntax_element-requires-2 c = token_placed _ _ _ _ c.edge_token-edge.ensures.written (c.edge_token-edge.ensures.says _) c.in-Token.is
+
+pub returns : goal.returns
+returns c = below_told (below_found c.child-beside.ensures c.edge_token-edge.ensures c.in-Token.is (omega (arith, c.requires.in_bounds, c.path-1.given))) refl c.syntax_element-2.ensures

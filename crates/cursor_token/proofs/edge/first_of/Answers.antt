@@ -1,0 +1,32 @@
+-- `first_of` meets its contract.
+use native.Mathlib.Omega.{arith}
+use mathlib.Core.Path.{refl}
+use Rattle.utility_types.specs.declared.Direction.TheVariants.{Next}
+use Rattle.cursor.proofs.Positions.{inner, leaf}
+use Rattle.cursor_token.proofs.Edges.{at_leaf, at_childless, edge_of, below_leaf}
+use Rattle.cursor_token.proofs.Tokens.{token_placed, edge_none, edge_told}
+use Rattle.cursor_token.proofs.edge.first_of.Goals as goal
+
+pub returns-in_default : goal.returns-in_default
+returns-in_default c = edge_told (at_leaf Next _ c.requires.0 (leaf c.requires.0 c.node_or_token.ensures c.in_default.is)) refl c.syntax_element.ensures
+
+pub child_count-count-requires : goal.child_count-count-requires
+child_count-count-requires c = inner c.requires.0 c.node_or_token.ensures c.in-Node.is
+
+pub returns-then-count-eq0 : goal.returns-then-count-eq0
+returns-then-count-eq0 c = edge_none (at_childless Next _ (inner c.requires.0 c.node_or_token.ensures c.in-Node.is) c.child_count-count.ensures.0 c.if-count-eq0.true) refl
+
+pub child-child-requires : goal.child-child-requires
+child-child-requires c = record { inner = inner c.requires.0 c.node_or_token.ensures c.in-Node.is; k_bound = omega (arith, c.edge_index-k.ensures.1, c.child_count-count.ensures.0) }
+
+pub returns-in_default-node_or_token : goal.returns-in_default-node_or_token
+returns-in_default-node_or_token c = edge_told (edge_of (inner c.requires.0 c.node_or_token.ensures c.in-Node.is) c.child_count-count.ensures.0 c.edge_index-k.ensures.0 (below_leaf Next _ c.child-child.ensures (leaf c.child-child.ensures.placed c.node_or_token-2.ensures c.in_default-node_or_token.is) c.requires.1)) refl c.syntax_element-in_default-node_or_token.ensures
+
+pub returns-in_default-edge : goal.returns-in_default-edge
+returns-in_default-edge c = edge_none c.edge_token-edge.ensures c.in_default-edge.is
+
+pub syntax_element-requires-2 : goal.syntax_element-requires-2
+syntax_element-requires-2 c = token_placed _ _ _ _ c.edge_token-edge.ensures.written (c.edge_token-edge.ensures.says _) c.in-Token.is
+
+pub returns : goal.returns
+returns c = edge_told c.edge_token-edge.ensures c.in-Token.is c.syntax_element-2.ensures
