@@ -2,9 +2,10 @@
 
 ghost use Rattle.std.specs.Prelude.{true, false};
 ghost use Rattle.definitions.specs.Query.{Question};
-ghost use Rattle.green.specs.Store.{here, entered};
+ghost use Rattle.green.specs.Store.{here, entered, entries};
 ghost use Rattle.green.specs.Valid.{Valid};
-ghost use Rattle.cursor_ffi.specs.Exports.{Asks};
+ghost use Rattle.cursor.specs.Answers.{answer_at_path};
+ghost use Rattle.cursor_ffi.specs.Exports.{Asks, QuestionExported};
 
 use abi::{Words, answer};
 use cursor_node::{element, siblings};
@@ -22,7 +23,7 @@ pub extern "C" fn notes_parent(
     words: &mut Words,
 ) -> usize
     requires { Valid (here records children text used) }
-    ensures { Asks (entered records children text used) root depth path Question.parent words result }
+    ensures { QuestionExported (answer_at_path (entries (entered records children text used)) root depth path.now Question.parent) path.now path.now words.old words.new result }
 {
     let found = element::parent(records, children, text, used, root, path, depth);
     answer::put_answer(words, found)

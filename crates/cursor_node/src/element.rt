@@ -1,9 +1,9 @@
 // What a path names, and its parent.
 
 ghost use Rattle.definitions.specs.Query.{Question};
-ghost use Rattle.green.specs.Store.{here, entered};
+ghost use Rattle.green.specs.Store.{here, entered, entries};
 ghost use Rattle.green.specs.Valid.{Valid};
-ghost use Rattle.cursor.specs.Answers.{Answers};
+ghost use Rattle.cursor.specs.Answers.{Tells, answer_at_path};
 
 use cursor::path::{Located, Remember, Remembered};
 use cursor::position::Answer;
@@ -20,7 +20,7 @@ pub fn element_at(
     depth: usize,
 ) -> Answer
     requires { Valid (here records children text used) }
-    ensures { Answers (entered records children text used) root depth path Question.here result }
+    ensures { Tells path.now path.now (answer_at_path (entries (entered records children text used)) root depth path.now Question.here) result }
 {
     let found = path::locate(
         records,
@@ -50,7 +50,7 @@ pub fn parent(
     depth: usize,
 ) -> Answer
     requires { Valid (here records children text used) }
-    ensures { Answers (entered records children text used) root depth path Question.parent result }
+    ensures { Tells path.now path.now (answer_at_path (entries (entered records children text used)) root depth path.now Question.parent) result }
 {
     let found = path::locate(
         records,

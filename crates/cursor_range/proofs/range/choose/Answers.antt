@@ -3,8 +3,8 @@ use native.Mathlib.Omega.{arith}
 use mathlib.Core.Logic.{⊎_elim}
 use borrow.Author.Tests.{eqb-true, eqb-false, ltb-true, ltb-false}
 use Rattle.cursor_range.proofs.Choosing.{no_child_chosen, short_chosen, before_chosen, last_chosen}
-use Rattle.cursor_range.proofs.range.choose.Goals.{else-else-last-gt0, then-else-last-gt0}
 use Rattle.cursor_range.proofs.range.choose.Goals as goal
+use Rattle.cursor_range.proofs.range.choose.Goals.{else-last-gt0-via-then-last-gt0+then-child-end+else-end-child_end, else-last-gt0-via-then-last-gt0+else-child-end, else-last-gt0-via-else-last-gt0}
 
 pub returns-then-count-eq0 : goal.returns-then-count-eq0
 returns-then-count-eq0 c = no_child_chosen c.requires.inner c.requires.partition.2 (rw c.if-count-eq0.true at c.requires.partition.0) c.requires.partition.1
@@ -18,4 +18,4 @@ returns-then-end-child_end c = before_chosen c.requires.inner c.requires.partiti
 pub returns : goal.returns
 returns c =
     last_chosen c.requires.inner c.requires.partition.2 c.requires.partition.0 (omega (arith, c.if-count-eq0.false)) c.child-child.ensures c.end_of-child_end.ensures.0 c.if-child_end-end.false
-    (λ p q l. elim c.else-last-gt0.branch [ then-else-last-gt0 w ↦ omega (arith, ltb-false, w.3.left) | else-else-last-gt0 w ↦ ⊎_elim (λ v. eqb-false _ _ v.2.left q) (λ v. omega (arith, v.left)) w ])
+    (λ p q l. elim c.else-last-gt0.branch [ else-last-gt0-via-then-last-gt0+then-child-end+else-end-child_end w ↦ omega (arith, w.if-end-child_end.false) | else-last-gt0-via-then-last-gt0+else-child-end w ↦ w.if-child-end.false q | else-last-gt0-via-else-last-gt0 w ↦ omega (arith, w.if-last-gt0.false) ])
