@@ -7,8 +7,8 @@ use Rattle.definitions.specs.Sheet.{event_count}
 use Rattle.sheet_run.proofs.Stepping.{wrote_number, wrote_none, number_small, left_part}
 use Rattle.sheet_run.proofs.Going.{going_start, going_ahead, going_on, going_refused, going_over}
 use Rattle.sheet_run.proofs.Starting.{nothing_run, new_builder, new_standing}
-use Rattle.sheet_run.proofs.run_in.Goals.{else-match-answer, then-match-answer}
 use Rattle.sheet_run.proofs.run_in.Goals as goal
+use Rattle.sheet_run.proofs.run_in.Goals.{in-Yielded, in-Accepted}
 
 pub returns-then-is_malformed : goal.returns-then-is_malformed
 returns-then-is_malformed c = let r = nothing_run c.args.sheet.now c.args.source.now c.requires.0 (sym c.is_malformed.ensures ∙ c.if-is_malformed.true) _ refl c.requires.1 in record { run_done = r.0; builder_done = r.1.0; yields_done = r.1.1 }
@@ -42,7 +42,7 @@ pub overflow_cast-yields : goal.overflow_cast-yields
 overflow_cast-yields c = omega (arith, number_small c.step-done.ensures c.in-Yielded.is)
 
 pub loop-i-preserved : goal.loop-i-preserved
-loop-i-preserved c = going_on c.loop-i.invariant c.loop-i-test.true c.step-done.ensures (elim c.match-answer.branch [ then-match-answer w ↦ wrote_number c.step-done.ensures _ w.1.given.1 w.3 | else-match-answer w ↦ wrote_none c.step-done.ensures _ w.1.given.1 w.2 ]) c.records-1.given c.children-1.given c.text-1.given
+loop-i-preserved c = going_on c.loop-i.invariant c.loop-i-test.true c.step-done.ensures (elim c.match-answer.branch [ in-Yielded w ↦ wrote_number c.step-done.ensures _ w.in-Yielded.is w.yields-is | in-Accepted w ↦ wrote_none c.step-done.ensures _ w.in-Accepted.is w.yields-is ]) c.records-1.given c.children-1.given c.text-1.given
 
 pub shape_of-parents : goal.shape_of-parents
 shape_of-parents c = c.loop-i.invariant.builder_valid.parents_length ∙ sym c.requires.1.parents
