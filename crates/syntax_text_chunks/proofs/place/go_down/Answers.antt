@@ -24,7 +24,7 @@ pub child-at-requires : goal.child-at-requires
 child-at-requires c = record { inner = inner_here c.loop-d.invariant c.requires.placed.2 c.loop-d-test.true; k_bound = child_there c.loop-d.invariant c.requires.placed.2 c.loop-d-test.true c.widen-i.ensures.0 }
 
 pub loop-d-preserved : goal.loop-d-preserved
-loop-d-preserved c = elim c.if-i-count.branch [ then-i-count w ↦ going_turn c.loop-d.invariant c.requires.placed.2 c.loop-d-test.true c.widen-i.ensures.0 c.child-at.ensures (omega (arith, w.if-i-count.true, c.child_count-count.ensures.0)) w.1 | else-i-count w ↦ going_on c.loop-d.invariant c.requires.placed.2 c.loop-d-test.true c.widen-i.ensures.0 c.child-at.ensures (omega (arith, w.if-i-count.false, c.child_count-count.ensures.0)) w.1 ]
+loop-d-preserved c = elim c.if-i-count.branch [ then-i-count w ↦ going_turn c.loop-d.invariant c.requires.placed.2 c.loop-d-test.true c.widen-i.ensures.0 c.child-at.ensures (omega (arith, w.if-i-count.true, c.child_count-count.ensures.0)) w.later-is | else-i-count w ↦ going_on c.loop-d.invariant c.requires.placed.2 c.loop-d-test.true c.widen-i.ensures.0 c.child-at.ensures (omega (arith, w.if-i-count.false, c.child_count-count.ensures.0)) w.later-is ]
 
 pub returns : goal.returns
 returns c = arrived c.loop-d.invariant c.loop-d-test.false

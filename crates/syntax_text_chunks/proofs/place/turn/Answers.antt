@@ -2,8 +2,8 @@
 use native.Mathlib.Omega.{arith}
 use Rattle.cursor.proofs.Positions.{inner, leaf}
 use Rattle.syntax_text_chunks.proofs.Turning.{leads_there, past_range, token_found, child_first, room_there, into_node, pass_token, pass_node, went_on, went_out}
-use Rattle.syntax_text_chunks.proofs.place.turn.Goals.{else-match-node_or_token, then-match-node_or_token}
 use Rattle.syntax_text_chunks.proofs.place.turn.Goals as goal
+use Rattle.syntax_text_chunks.proofs.place.turn.Goals.{in-Node+else-child_count-gt0, in_default+else-start-end_of}
 
 pub returns-then-end-at : goal.returns-then-end-at
 returns-then-end-at c = past_range c.requires.reaches _ _ c.if-end-at.true
@@ -30,7 +30,7 @@ pub go_down-way-requires : goal.go_down-way-requires
 go_down-way-requires c = record { placed = (c.requires.placed.0, c.requires.placed.1, omega (arith, c.requires.placed.2, c.requires.reaches.placed.deep)); leads_on = leads_there c.requires.reaches c.args.start c.args.end }
 
 pub returns-in-To : goal.returns-in-To
-returns-in-To c = went_on c.requires.reaches _ _ (elim c.match-node_or_token.branch [ then-match-node_or_token w ↦ pass_node c.requires.reaches _ _ (inner c.requires.reaches.placed c.node_or_token.ensures w.1.given.1) w.2.ensures.0 w.3.left | else-match-node_or_token w ↦ pass_token c.requires.reaches _ _ w.2.ensures.0 w.3.left ]) c.advance-next.ensures c.in-To.is
+returns-in-To c = went_on c.requires.reaches _ _ (elim c.match-node_or_token.branch [ in-Node+else-child_count-gt0 w ↦ pass_node c.requires.reaches _ _ (inner c.requires.reaches.placed c.node_or_token.ensures w.in-Node.is) w.child_count.ensures.0 w.if-child_count-gt0.false | in_default+else-start-end_of w ↦ pass_token c.requires.reaches _ _ w.end_of.ensures.0 w.if-start-end_of.false ]) c.advance-next.ensures c.in-To.is
 
 pub returns-in-Nothing : goal.returns-in-Nothing
-returns-in-Nothing c = went_out c.requires.reaches _ _ (elim c.match-node_or_token.branch [ then-match-node_or_token w ↦ pass_node c.requires.reaches _ _ (inner c.requires.reaches.placed c.node_or_token.ensures w.1.given.1) w.2.ensures.0 w.3.left | else-match-node_or_token w ↦ pass_token c.requires.reaches _ _ w.2.ensures.0 w.3.left ]) c.advance-next.ensures c.in-Nothing.is
+returns-in-Nothing c = went_out c.requires.reaches _ _ (elim c.match-node_or_token.branch [ in-Node+else-child_count-gt0 w ↦ pass_node c.requires.reaches _ _ (inner c.requires.reaches.placed c.node_or_token.ensures w.in-Node.is) w.child_count.ensures.0 w.if-child_count-gt0.false | in_default+else-start-end_of w ↦ pass_token c.requires.reaches _ _ w.end_of.ensures.0 w.if-start-end_of.false ]) c.advance-next.ensures c.in-Nothing.is
