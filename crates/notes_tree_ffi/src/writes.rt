@@ -1,6 +1,6 @@
 // The calls that write a store: the run of a sheet, and one edit.
 
-ghost use Rattle.green.specs.Store.{here, stores, both, store};
+ghost use Rattle.green.specs.Store.{both, store, stores};
 ghost use Rattle.sheet_run.specs.RunDone.{list};
 ghost use Rattle.notes_tree_ffi.specs.Goes.{HasHistory};
 ghost use Rattle.notes_tree_ffi.specs.Exports.{RunExported, edit_of, EditExported};
@@ -23,7 +23,7 @@ pub extern "C" fn notes_run(
     source: &[u8],
     words: &mut Words,
 ) -> usize
-    requires { HasHistory (here records children text used) }
+    requires { HasHistory (store records.old children.old text.old used.old) }
     ensures { RunExported (stores records children text used) (list yields) sheet.now source.now (list words) result }
 {
     show(yields);
