@@ -10,8 +10,7 @@ use abi::{Words, answer};
 use cursor_node::children as kids;
 use green::Counts;
 
-#[unsafe(no_mangle)]
-pub extern "C" fn notes_first_child(
+pub fn notes_first_child(
     records: &[u64],
     children: &[u64],
     text: &[u8],
@@ -28,8 +27,7 @@ pub extern "C" fn notes_first_child(
     answer::put_answer(words, found)
 }
 
-#[unsafe(no_mangle)]
-pub extern "C" fn notes_last_child(
+pub fn notes_last_child(
     records: &[u64],
     children: &[u64],
     text: &[u8],
@@ -46,8 +44,7 @@ pub extern "C" fn notes_last_child(
     answer::put_answer(words, found)
 }
 
-#[unsafe(no_mangle)]
-pub extern "C" fn notes_first_child_or_token(
+pub fn notes_first_child_or_token(
     records: &[u64],
     children: &[u64],
     text: &[u8],
@@ -64,8 +61,7 @@ pub extern "C" fn notes_first_child_or_token(
     answer::put_answer(words, found)
 }
 
-#[unsafe(no_mangle)]
-pub extern "C" fn notes_last_child_or_token(
+pub fn notes_last_child_or_token(
     records: &[u64],
     children: &[u64],
     text: &[u8],

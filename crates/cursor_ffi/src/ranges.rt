@@ -9,8 +9,7 @@ use abi::{Words, answer};
 use cursor_range::{cover, offset, range};
 use green::Counts;
 
-#[unsafe(no_mangle)]
-pub extern "C" fn notes_child_or_token_at_range(
+pub fn notes_child_or_token_at_range(
     records: &[u64],
     children: &[u64],
     text: &[u8],
@@ -31,8 +30,7 @@ pub extern "C" fn notes_child_or_token_at_range(
     answer::put_answer(words, found)
 }
 
-#[unsafe(no_mangle)]
-pub extern "C" fn notes_covering_element(
+pub fn notes_covering_element(
     records: &[u64],
     children: &[u64],
     text: &[u8],
@@ -53,8 +51,7 @@ pub extern "C" fn notes_covering_element(
     answer::put_answer(words, found)
 }
 
-#[unsafe(no_mangle)]
-pub extern "C" fn notes_token_at_offset(
+pub fn notes_token_at_offset(
     records: &[u64],
     children: &[u64],
     text: &[u8],

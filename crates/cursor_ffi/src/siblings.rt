@@ -11,8 +11,7 @@ use abi::{Words, answer};
 use cursor_node::{element, siblings};
 use green::Counts;
 
-#[unsafe(no_mangle)]
-pub extern "C" fn notes_parent(
+pub fn notes_parent(
     records: &[u64],
     children: &[u64],
     text: &[u8],
@@ -29,8 +28,7 @@ pub extern "C" fn notes_parent(
     answer::put_answer(words, found)
 }
 
-#[unsafe(no_mangle)]
-pub extern "C" fn notes_next_sibling(
+pub fn notes_next_sibling(
     records: &[u64],
     children: &[u64],
     text: &[u8],
@@ -47,8 +45,7 @@ pub extern "C" fn notes_next_sibling(
     answer::put_answer(words, found)
 }
 
-#[unsafe(no_mangle)]
-pub extern "C" fn notes_prev_sibling(
+pub fn notes_prev_sibling(
     records: &[u64],
     children: &[u64],
     text: &[u8],
@@ -65,8 +62,7 @@ pub extern "C" fn notes_prev_sibling(
     answer::put_answer(words, found)
 }
 
-#[unsafe(no_mangle)]
-pub extern "C" fn notes_next_sibling_or_token(
+pub fn notes_next_sibling_or_token(
     records: &[u64],
     children: &[u64],
     text: &[u8],
@@ -83,8 +79,7 @@ pub extern "C" fn notes_next_sibling_or_token(
     answer::put_answer(words, found)
 }
 
-#[unsafe(no_mangle)]
-pub extern "C" fn notes_prev_sibling_or_token(
+pub fn notes_prev_sibling_or_token(
     records: &[u64],
     children: &[u64],
     text: &[u8],

@@ -12,8 +12,7 @@ use cursor_token::{adjacent, edge};
 use green::{Counts, record};
 use utility_types::{NodeOrToken, Refusal};
 
-#[unsafe(no_mangle)]
-pub extern "C" fn notes_first_token(
+pub fn notes_first_token(
     records: &[u64],
     children: &[u64],
     text: &[u8],
@@ -30,8 +29,7 @@ pub extern "C" fn notes_first_token(
     answer::put_answer(words, found)
 }
 
-#[unsafe(no_mangle)]
-pub extern "C" fn notes_last_token(
+pub fn notes_last_token(
     records: &[u64],
     children: &[u64],
     text: &[u8],
@@ -48,8 +46,7 @@ pub extern "C" fn notes_last_token(
     answer::put_answer(words, found)
 }
 
-#[unsafe(no_mangle)]
-pub extern "C" fn notes_next_token(
+pub fn notes_next_token(
     records: &[u64],
     children: &[u64],
     text: &[u8],
@@ -66,8 +63,7 @@ pub extern "C" fn notes_next_token(
     answer::put_answer(words, found)
 }
 
-#[unsafe(no_mangle)]
-pub extern "C" fn notes_prev_token(
+pub fn notes_prev_token(
     records: &[u64],
     children: &[u64],
     text: &[u8],
@@ -84,8 +80,7 @@ pub extern "C" fn notes_prev_token(
     answer::put_answer(words, found)
 }
 
-#[unsafe(no_mangle)]
-pub extern "C" fn notes_token_text(
+pub fn notes_token_text(
     records: &[u64],
     children: &[u64],
     text: &[u8],

@@ -9,8 +9,7 @@ use abi::{Words, answer};
 use green::{Counts, element, node};
 
 // What a record keeps of its element.
-#[unsafe(no_mangle)]
-pub extern "C" fn notes_element(
+pub fn notes_element(
     records: &[u64],
     children: &[u64],
     text: &[u8],
@@ -26,8 +25,7 @@ pub extern "C" fn notes_element(
 }
 
 // A child of a node.
-#[unsafe(no_mangle)]
-pub extern "C" fn notes_child(
+pub fn notes_child(
     records: &[u64],
     children: &[u64],
     text: &[u8],

@@ -10,8 +10,7 @@ use abi::question::Coded;
 use abi::{Words, answer, question};
 use green::Counts;
 
-#[unsafe(no_mangle)]
-pub extern "C" fn notes_query(
+pub fn notes_query(
     records: &[u64],
     children: &[u64],
     text: &[u8],

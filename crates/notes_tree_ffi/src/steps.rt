@@ -20,8 +20,7 @@ fn show(_words: &[usize]) {}
 fn show_path(_path: &[u32]) {}
 
 // A new walk of the node that a path names. A refused one leaves the words as they were.
-#[unsafe(no_mangle)]
-pub extern "C" fn notes_walk_begin(
+pub fn notes_walk_begin(
     records: &[u64],
     children: &[u64],
     text: &[u8],
@@ -43,8 +42,7 @@ pub extern "C" fn notes_walk_begin(
 }
 
 // The next event; its element is at the indexes that the path held before the call.
-#[unsafe(no_mangle)]
-pub extern "C" fn notes_walk_next(
+pub fn notes_walk_next(
     records: &[u64],
     children: &[u64],
     text: &[u8],
@@ -70,8 +68,7 @@ pub extern "C" fn notes_walk_next(
 }
 
 // A coming Enter becomes Leave of that element's parent.
-#[unsafe(no_mangle)]
-pub extern "C" fn notes_walk_skip(walk: &mut Words) -> usize
+pub fn notes_walk_skip(walk: &mut Words) -> usize
     requires { WalkInWords walk.old }
     ensures { WalkSkips (list walk) result }
 {
@@ -83,8 +80,7 @@ pub extern "C" fn notes_walk_skip(walk: &mut Words) -> usize
 }
 
 // As many calls of next as there is place for.
-#[unsafe(no_mangle)]
-pub extern "C" fn notes_walk_many(
+pub fn notes_walk_many(
     records: &[u64],
     children: &[u64],
     text: &[u8],
@@ -110,8 +106,7 @@ pub extern "C" fn notes_walk_many(
 }
 
 // The next chunk of a text: where it lies in the store's text.
-#[unsafe(no_mangle)]
-pub extern "C" fn notes_next_chunk(
+pub fn notes_next_chunk(
     records: &[u64],
     children: &[u64],
     text: &[u8],

@@ -12,8 +12,7 @@ use green::Counts;
 fn show(_words: &[u32]) {}
 
 // A sheet and its text, by a builder of the call's own. What the events yield is lent apart.
-#[unsafe(no_mangle)]
-pub extern "C" fn notes_run(
+pub fn notes_run(
     records: &mut [u64],
     children: &mut [u64],
     text: &mut [u8],
@@ -32,8 +31,7 @@ pub extern "C" fn notes_run(
 }
 
 // One edit, by its code.
-#[unsafe(no_mangle)]
-pub extern "C" fn notes_edit(
+pub fn notes_edit(
     records: &mut [u64],
     children: &mut [u64],
     text: &[u8],

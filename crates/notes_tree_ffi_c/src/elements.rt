@@ -1,0 +1,42 @@
+// What the store's records hold.
+
+ghost use Rattle.green.specs.Store.{here, entered};
+ghost use Rattle.green.specs.Valid.{Valid};
+ghost use Rattle.sheet_run.specs.RunDone.{list};
+ghost use Rattle.notes_tree_ffi.specs.Exports.{ElementExported, ChildExported};
+
+use abi::Words;
+use green::Counts;
+
+// What a record keeps of its element.
+#[unsafe(no_mangle)]
+pub extern "C" fn notes_element(
+    records: &[u64],
+    children: &[u64],
+    text: &[u8],
+    used: &Counts,
+    number: usize,
+    words: &mut Words,
+) -> usize
+    requires { Valid (here records children text used) }
+    ensures { ElementExported (entered records children text used) number (list words) result }
+{
+    notes_tree_ffi::elements::notes_element(records, children, text, used, number, words)
+}
+
+// A child of a node.
+#[unsafe(no_mangle)]
+pub extern "C" fn notes_child(
+    records: &[u64],
+    children: &[u64],
+    text: &[u8],
+    used: &Counts,
+    number: usize,
+    index: usize,
+    words: &mut Words,
+) -> usize
+    requires { Valid (here records children text used) }
+    ensures { ChildExported (entered records children text used) number index (list words) result }
+{
+    notes_tree_ffi::elements::notes_child(records, children, text, used, number, index, words)
+}
