@@ -3,17 +3,19 @@
 
 ghost use Rattle.std.specs.Prelude.{◌≡◌, true, false, ◌<◌};
 
-use libc::STDERR_FILENO;
+use std::fs::File;
+use std::io::Stderr;
 use utility_types::number;
 
 // A script has at most 1,000,000 bytes.
 pub const MOST_WORDS: usize = 250000;
 
-// A call of an open script: its ordinal from 0 and the byte where it starts, for complaints, its number, and how many words
-// of arguments follow.
+// A call of an open script: where complaints go, its ordinal from 0 and the byte where it starts, for these, its number, and
+// how many words of arguments follow.
 #[derive(Clone, Copy)]
-pub struct Call {
-    pub fd: i32,
+pub struct Call<'a> {
+    pub file: &'a File,
+    pub complaints: Stderr,
     pub ordinal: usize,
     pub start: usize,
     pub op: u32,
@@ -22,11 +24,8 @@ pub struct Call {
 
 // Says what is wrong with a call, and answers that the script does not go on.
 pub fn complain(call: Call, what: &[u8]) -> bool {
-    io::write_all(STDERR_FILENO, b"call ");
-    io::print_decimal(STDERR_FILENO, call.ordinal as u64);
-    io::write_all(STDERR_FILENO, b" at byte ");
-    io::print_decimal(STDERR_FILENO, call.start as u64);
-    files::tell(b"", what);
+    let _ = eprint!(call.complaints; "call {} at byte {}", call.ordinal, call.start);
+    files::tell(call.complaints, b"", what);
     false
 }
 
@@ -39,7 +38,7 @@ enum Got {
 }
 
 fn fill(call: Call, buf: &mut [u8]) -> Got {
-    let read = files::read_part(call.fd, b"the script", buf);
+    let read = files::read_part(call.complaints, call.file, b"the script", buf);
     if !read.ok {
         return Got::Broken;
     }
@@ -65,9 +64,9 @@ pub fn fill_whole(call: Call, buf: &mut [u8]) -> bool {
 
 // The next call, if there is one. `left` words of the longest script are left after it.
 #[derive(Clone, Copy)]
-pub struct Head {
+pub struct Head<'a> {
     pub more: bool,
-    pub call: Call,
+    pub call: Call<'a>,
     pub left: usize,
 }
 
@@ -87,13 +86,14 @@ fn start_of(left: usize) -> usize {
 }
 
 // The head of the call that comes next; `left` words of the longest script are left.
-pub fn read_head(fd: i32, ordinal: usize, left: usize) -> Head
+pub fn read_head(file: &File, complaints: Stderr, ordinal: usize, left: usize) -> Head
     ensures { result.more ≡ true → result.left < left }
 {
     let start = start_of(left);
     let mut bytes = [0u8; 8];
     let coming = Call {
-        fd,
+        file,
+        complaints,
         ordinal,
         start,
         op: 0,
@@ -106,7 +106,8 @@ pub fn read_head(fd: i32, ordinal: usize, left: usize) -> Head
     let op = number::u32_at(&bytes, 0);
     let m = number::widen(number::u32_at(&bytes, 4));
     let call = Call {
-        fd,
+        file,
+        complaints,
         ordinal,
         start,
         op,
