@@ -1,7 +1,7 @@
 #![tactic(auto)]
 
-// What the programs read and write: files by name, here, and standard output, in `out`. What cannot be opened, read or
-// written is named on standard error.
+// What the programs read and write: files by name, here, their arguments, in `arguments`, and standard output, in `out`. What
+// cannot be opened, read or written is named on standard error.
 
 ghost use Rattle.std.specs.Prelude.{◌≤◌, length};
 
@@ -9,6 +9,7 @@ use std::fs::File;
 use std::io;
 use std::io::{Print, Stderr};
 
+pub mod arguments;
 pub mod out;
 
 // A line on standard error: what it is about, a colon, and what is wrong. Where standard error cannot be written either, nobody

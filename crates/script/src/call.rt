@@ -10,12 +10,18 @@ use utility_types::number;
 // A script has at most 1,000,000 bytes.
 pub const MOST_WORDS: usize = 250000;
 
-// A call of an open script: where complaints go, its ordinal from 0 and the byte where it starts, for these, its number, and
-// how many words of arguments follow.
+// An open script, and where complaints about it go.
 #[derive(Clone, Copy)]
-pub struct Call<'a> {
+pub struct Script<'a> {
     pub file: &'a File,
     pub complaints: Stderr,
+}
+
+// A call of a script: its ordinal from 0 and the byte where it starts, for complaints, its number, and how many words of
+// arguments follow.
+#[derive(Clone, Copy)]
+pub struct Call<'a> {
+    pub script: Script<'a>,
     pub ordinal: usize,
     pub start: usize,
     pub op: u32,
@@ -24,8 +30,9 @@ pub struct Call<'a> {
 
 // Says what is wrong with a call, and answers that the script does not go on.
 pub fn complain(call: Call, what: &[u8]) -> bool {
-    let _ = eprint!(call.complaints; "call {} at byte {}", call.ordinal, call.start);
-    files::tell(call.complaints, b"", what);
+    let to = call.script.complaints;
+    let _ = eprint!(to; "call {} at byte {}", call.ordinal, call.start);
+    files::tell(to, b"", what);
     false
 }
 
@@ -38,7 +45,7 @@ enum Got {
 }
 
 fn fill(call: Call, buf: &mut [u8]) -> Got {
-    let read = files::read_part(call.complaints, call.file, b"the script", buf);
+    let read = files::read_part(call.script.complaints, call.script.file, b"the script", buf);
     if !read.ok {
         return Got::Broken;
     }
@@ -70,7 +77,7 @@ pub struct Head<'a> {
     pub left: usize,
 }
 
-fn no_head(call: Call) -> Head
+fn no_head(call: Call<'_>) -> Head<'_>
     ensures { result.more ≡ false }
 {
     Head {
@@ -86,14 +93,13 @@ fn start_of(left: usize) -> usize {
 }
 
 // The head of the call that comes next; `left` words of the longest script are left.
-pub fn read_head(file: &File, complaints: Stderr, ordinal: usize, left: usize) -> Head
+pub fn read_head(script: Script<'_>, ordinal: usize, left: usize) -> Head<'_>
     ensures { result.more ≡ true → result.left < left }
 {
     let start = start_of(left);
     let mut bytes = [0u8; 8];
     let coming = Call {
-        file,
-        complaints,
+        script,
         ordinal,
         start,
         op: 0,
@@ -106,8 +112,7 @@ pub fn read_head(file: &File, complaints: Stderr, ordinal: usize, left: usize) -
     let op = number::u32_at(&bytes, 0);
     let m = number::widen(number::u32_at(&bytes, 4));
     let call = Call {
-        file,
-        complaints,
+        script,
         ordinal,
         start,
         op,
