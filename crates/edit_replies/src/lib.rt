@@ -1,3 +1,5 @@
+#![tactic(auto)]
+
 // What `replay` answers to the calls of a script that make records: the run of a sheet, in `runs`, and edits, in `edit`.
 
 ghost use Rattle.green.specs.Store.{store};

@@ -1,84 +1,77 @@
 // Standard output through one lent buffer, so that a listing costs a write for each buffer and not one for each word.
-//
-// The buffer's first two bytes count those after them that wait to be written; so what prints is lent one place. Once a write
-// has failed the count lies past the buffer: that was told on standard error, and whatever comes later is dropped.
 
-ghost use Rattle.std.specs.Prelude.{◌^◌, ◌≤◌, ◌<◌};
+ghost use Rattle.std.specs.Prelude.{◌≡◌, ◌≤◌};
 
-use libc::STDOUT_FILENO;
-
-// A new one is all zeros.
-pub type Buffer = [u8; 8192];
+use crate::tell_error;
+use std::fmt;
+use std::fmt::Write;
+use std::io::{Print, Stderr, Stdout};
 
 // How many bytes can wait.
-const ROOM: usize = 8190;
+const ROOM: usize = 8192;
 
-const FAILED: usize = 65535;
-
-fn wide(x: u8) -> usize
-    ensures { result < 256 }
-{
-    x as usize
+// The first `count` of its bytes wait to be written. Once a write has failed, which was told on standard error, nothing waits,
+// and whatever comes later is dropped.
+#[derive(Drop)]
+pub struct Buffer {
+    to: Stdout,
+    complaints: Stderr,
+    waiting: [u8; 8192],
+    count: usize,
+    has_failed: bool,
+    ghost has_room: { count ≤ 8192 },
 }
 
-fn count_of(out: &Buffer) -> usize {
-    wide(out[0]) + 256 * wide(out[1])
-}
-
-fn set_count(out: &mut Buffer, n: usize)
-    requires { n < 2 ^ 16 }
-{
-    out[0] = (n % 256) as u8;
-    out[1] = (n / 256) as u8;
-}
-
-// Whether `n` bytes of a buffer were written.
-fn is_written(out: &[u8], n: usize) -> bool
-    requires { n ≤ 8190 }
-{
-    if out.len() < 8192 {
-        return false;
+impl Buffer {
+    pub fn new(rt: HostRuntime) -> Buffer {
+        Buffer {
+            to: rt.stdout(),
+            complaints: rt.stderr(),
+            waiting: [0; 8192],
+            count: 0,
+            has_failed: false,
+        }
     }
-    io::write_all(STDOUT_FILENO, &out[2..2 + n])
 }
 
 // Writes what waits.
-pub fn flush(out: &mut Buffer) {
-    let n = count_of(out);
-    if ROOM < n {
-        return;
-    }
-    if is_written(out, n) {
-        set_count(out, 0);
-    } else {
-        os::fail(b"standard output");
-        set_count(out, FAILED);
+pub fn flush(out: &mut Buffer)
+    ensures { out.new.count ≡ 0 }
+{
+    let written = out.to.write_all(&out.waiting[..out.count]);
+    out.count = 0;
+    if let Err(error) = written {
+        tell_error(out.complaints, b"standard output", error);
+        out.has_failed = true;
     }
 }
 
 fn put_byte(out: &mut Buffer, byte: u8) {
-    if count_of(out) == ROOM {
+    if out.count == ROOM {
         flush(out);
     }
-    let n = count_of(out);
-    if n < ROOM {
-        out[2 + n] = byte;
-        set_count(out, n + 1);
+    if !out.has_failed {
+        out.waiting[out.count] = byte;
+        out.count += 1;
     }
 }
 
 pub fn put(out: &mut Buffer, bytes: &[u8]) {
-    let mut i = 0;
-    while i < bytes.len() {
-        put_byte(out, bytes[i]);
-        i += 1;
+    for byte in bytes {
+        put_byte(out, *byte);
+    }
+}
+
+// A number's digits are text.
+impl fmt::Write for Buffer {
+    fn write_str(&mut self, text: &str) -> fmt::Result {
+        put(self, text.as_bytes());
+        Ok(())
     }
 }
 
 // Some bytes and a number.
 pub fn put_number(out: &mut Buffer, before: &[u8], number: u64) {
     put(out, before);
-    let mut digits = [0u8; 20];
-    let n = io::decimal(number, &mut digits);
-    put(out, &digits[..n]);
+    let _ = write!(out, "{number}");
 }

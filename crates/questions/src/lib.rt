@@ -1,3 +1,5 @@
+#![tactic(auto)]
+
 // What the calls of a script ask, and what it keeps from call to call. Nothing here is lent the store or the output.
 //
 // `asked` has what is put to the port, in one form for queries, walks that begin and texts: a question, a root and a depth by

@@ -8,7 +8,7 @@ use files::out;
 use files::out::Buffer;
 use green::Counts;
 use questions::slots::Slots;
-use script::call::Call;
+use script::call::{Call, Script};
 use script::store::Store;
 use script::{call, store, words};
 use std::num::wrapping_add_usize;
@@ -79,7 +79,7 @@ fn answer(
 // The calls up to the next store, from an empty one with empty slots, from the call of that ordinal on. `words` of the
 // longest script are left.
 fn answer_all(
-    fd: i32,
+    script: Script,
     out: &mut Buffer,
     records: &mut [u64],
     children: &mut [u64],
@@ -94,7 +94,7 @@ fn answer_all(
     let mut ordinal = first;
     let mut left = words;
     loop {
-        let head = call::read_head(fd, ordinal, left);
+        let head = call::read_head(script, ordinal, left);
         if !head.more {
             return over();
         }
@@ -112,7 +112,7 @@ fn answer_all(
 
 // The same in as many of the places as the script asks for and there are.
 pub fn on_store(
-    fd: i32,
+    script: Script,
     out: &mut Buffer,
     records: &mut [u64],
     children: &mut [u64],
@@ -127,7 +127,7 @@ pub fn on_store(
     let c = number::lesser(asked.children, children.len());
     let t = number::lesser(asked.text, text.len());
     answer_all(
-        fd,
+        script,
         out,
         &mut records[..8 * r],
         &mut children[..c],

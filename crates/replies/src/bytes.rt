@@ -17,7 +17,8 @@ fn put_byte(out: &mut Buffer, byte: u8) {
     out::put(out, &pair);
 }
 
-fn put_digits(out: &mut Buffer, bytes: &[u8]) {
+// Two digits for each byte.
+pub(crate) fn put_digits(out: &mut Buffer, bytes: &[u8]) {
     let mut i = 0;
     while i < bytes.len() {
         put_byte(out, bytes[i]);

@@ -1,5 +1,6 @@
 // What runs, edits and records come to.
 
+use crate::bytes::put_digits;
 use builder::state::EventAnswer;
 use files::out;
 use files::out::Buffer;
@@ -76,7 +77,5 @@ pub fn put_summary(out: &mut Buffer, it: Summary) {
 
 pub fn put_mark(out: &mut Buffer, hash: u64) {
     out::put(out, b"mark ");
-    let mut digits = [0u8; 16];
-    let n = io::hex(hash, 16, &mut digits);
-    out::put(out, &digits[..n]);
+    put_digits(out, &hash.to_be_bytes());
 }

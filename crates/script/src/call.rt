@@ -3,17 +3,25 @@
 
 ghost use Rattle.std.specs.Prelude.{◌≡◌, true, false, ◌<◌};
 
-use libc::STDERR_FILENO;
+use std::fs::File;
+use std::io::Stderr;
 use utility_types::number;
 
 // A script has at most 1,000,000 bytes.
 pub const MOST_WORDS: usize = 250000;
 
-// A call of an open script: its ordinal from 0 and the byte where it starts, for complaints, its number, and how many words
-// of arguments follow.
+// An open script, and where complaints about it go.
 #[derive(Clone, Copy)]
-pub struct Call {
-    pub fd: i32,
+pub struct Script<'a> {
+    pub file: &'a File,
+    pub complaints: Stderr,
+}
+
+// A call of a script: its ordinal from 0 and the byte where it starts, for complaints, its number, and how many words of
+// arguments follow.
+#[derive(Clone, Copy)]
+pub struct Call<'a> {
+    pub script: Script<'a>,
     pub ordinal: usize,
     pub start: usize,
     pub op: u32,
@@ -22,11 +30,9 @@ pub struct Call {
 
 // Says what is wrong with a call, and answers that the script does not go on.
 pub fn complain(call: Call, what: &[u8]) -> bool {
-    io::write_all(STDERR_FILENO, b"call ");
-    io::print_decimal(STDERR_FILENO, call.ordinal as u64);
-    io::write_all(STDERR_FILENO, b" at byte ");
-    io::print_decimal(STDERR_FILENO, call.start as u64);
-    files::tell(b"", what);
+    let to = call.script.complaints;
+    let _ = eprint!(to; "call {} at byte {}", call.ordinal, call.start);
+    files::tell(to, b"", what);
     false
 }
 
@@ -39,7 +45,7 @@ enum Got {
 }
 
 fn fill(call: Call, buf: &mut [u8]) -> Got {
-    let read = files::read_part(call.fd, b"the script", buf);
+    let read = files::read_part(call.script.complaints, call.script.file, b"the script", buf);
     if !read.ok {
         return Got::Broken;
     }
@@ -65,13 +71,13 @@ pub fn fill_whole(call: Call, buf: &mut [u8]) -> bool {
 
 // The next call, if there is one. `left` words of the longest script are left after it.
 #[derive(Clone, Copy)]
-pub struct Head {
+pub struct Head<'a> {
     pub more: bool,
-    pub call: Call,
+    pub call: Call<'a>,
     pub left: usize,
 }
 
-fn no_head(call: Call) -> Head
+fn no_head(call: Call<'_>) -> Head<'_>
     ensures { result.more ≡ false }
 {
     Head {
@@ -87,13 +93,13 @@ fn start_of(left: usize) -> usize {
 }
 
 // The head of the call that comes next; `left` words of the longest script are left.
-pub fn read_head(fd: i32, ordinal: usize, left: usize) -> Head
+pub fn read_head(script: Script<'_>, ordinal: usize, left: usize) -> Head<'_>
     ensures { result.more ≡ true → result.left < left }
 {
     let start = start_of(left);
     let mut bytes = [0u8; 8];
     let coming = Call {
-        fd,
+        script,
         ordinal,
         start,
         op: 0,
@@ -106,7 +112,7 @@ pub fn read_head(fd: i32, ordinal: usize, left: usize) -> Head
     let op = number::u32_at(&bytes, 0);
     let m = number::widen(number::u32_at(&bytes, 4));
     let call = Call {
-        fd,
+        script,
         ordinal,
         start,
         op,
