@@ -101,7 +101,7 @@ fn outcomes_are_those_of_the_specs() {
     let specs = file("crates/abi/specs/Outcomes.antt");
     let outcomes: BTreeMap<&str, usize> = specs
         .lines()
-        .filter_map(|line| line.split_once("Outcome = "))
+        .filter_map(|line| line.split_once("_outcome = "))
         .filter_map(|(name, n)| Some((name, n.parse().ok()?)))
         .collect();
     let codes = codes();
@@ -138,7 +138,7 @@ fn every_question_has_a_code_and_a_call() {
 /// What is exported is declared in the header, which declares nothing else, and the Rust declarations name nothing that is not exported.
 #[test]
 fn exported_calls_are_declared() {
-    let sources = [files("crates/cursor_ffi/src", ".rt"), files("crates/notes_tree_ffi/src", ".rt")].concat().concat();
+    let sources = [files("crates/cursor_ffi_c/src", ".rt"), files("crates/notes_tree_ffi_c/src", ".rt")].concat().concat();
     let mut exported: Vec<&str> =
         sources.split("extern \"C\" fn ").skip(1).map(|rest| rest.split('(').next().unwrap()).collect();
     exported.sort_unstable();
