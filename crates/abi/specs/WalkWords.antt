@@ -1,6 +1,6 @@
 -- A walk's state as words: what comes next (0 its first event, 1 Enter, 2 Leave, any other number: it is over), how many indexes of the path
 -- lead there, how many led to its start, its root's number, and whether tokens count. All zeros is a new walk of root 0, of nodes only.
-use Rattle.std.specs.Prelude.{ℕ, zero, suc, ◌≤◌, ◌≡◌, List, [], ◌∷◌, Bool, get_or}
+use Rattle.std.specs.Prelude.{ℕ, zero, suc, ◌≤◌, List, [], ◌∷◌, Bool, get_or}
 use Rattle.std.proofs.lemmas.List.Edits.{sets}
 use Rattle.preorder.specs.declared.state.Coming.{Coming}
 use Rattle.preorder.specs.declared.state.Coming.TheVariants.{First, Enter, Leave, Ended}

@@ -20,7 +20,6 @@ use Rattle.cursor.specs.declared.path.Remember.{Remember}
 use Rattle.cursor.specs.declared.path.Place.{Place}
 use Rattle.cursor.specs.declared.path.Located.{Located}
 use Rattle.cursor.specs.declared.path.Located.TheVariants.{At, Refused}
-use Rattle.cursor.specs.Position.{at}
 use Rattle.cursor.specs.Path.{named, Leads}
 use Rattle.cursor.proofs.Named.{short, root_there, leads_along, root_is_node}
 use Rattle.cursor.proofs.Asking.{located_facts, refused_named, refused_4, located_named}

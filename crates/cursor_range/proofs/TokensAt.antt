@@ -8,7 +8,7 @@ use mathlib.Core.List.{List, [], ◌∷◌, ◌++◌, append-nil}
 use lib.ListN.{length, get_or, drop}
 use lib.Seq.{drop-cons, drop-length}
 use Rattle.definitions.specs.Prelude.{filter}
-use Rattle.definitions.specs.Tree.{node, text_len}
+use Rattle.definitions.specs.Tree.{text_len}
 use Rattle.definitions.specs.Entry.{Entry, entry_at, tree_at, trees_at}
 use Rattle.definitions.specs.Element.{Element}
 use Rattle.definitions.specs.Cursor.{tokens_in, tokens_of, tokens, token_at_offset}

@@ -13,7 +13,7 @@ use Rattle.definitions.specs.Cursor.{tokens, token_at_offset}
 use Rattle.definitions.proofs.TokensAt.{token_here, tree_none, One}
 use Rattle.green.specs.Store.{Store, entries}
 use Rattle.cursor.specs.declared.position.Cursor.{Cursor}
-use Rattle.cursor.specs.Position.{at, Inner, ChildAt}
+use Rattle.cursor.specs.Position.{Inner, ChildAt}
 use Rattle.cursor_range.specs.declared.tokens.Touching.{Touching}
 use Rattle.cursor_range.specs.declared.tokens.Touching.TheVariants.{NoChild, Child, Children}
 use Rattle.cursor_range.specs.declared.tokens.Hits.{Hits}

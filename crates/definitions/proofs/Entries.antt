@@ -9,7 +9,7 @@ use lib.ListN.{length, get_or, drop, length-append, drop_of_length-le}
 use lib.Seq.{drop-cons}
 use borrow.Author.Tests.{ltb-true, le-ltb, not-false}
 use Rattle.definitions.specs.Prelude.{any}
-use Rattle.definitions.specs.Tree.{text, count}
+use Rattle.definitions.specs.Tree.{count}
 use Rattle.definitions.specs.Entry.{Entry, trees_at, child_places, text_bytes, own_bytes, Lent}
 use Rattle.definitions.specs.Refusal.{is_absent, exceeds_room, is_overfull}
 use Rattle.definitions.proofs.Limits.{present, Room, entries_room, false_or, absent as is-absent}

@@ -9,7 +9,7 @@ use Rattle.definitions.specs.Tree.{node, kind, children_of, trees, forest}
 use Rattle.definitions.specs.Entry.{Entry, absent, entry_at, tree_at, trees_at}
 use Rattle.definitions.specs.WellFormed.{AllFormed}
 use Rattle.definitions.specs.Spelling.{spelled_at, spelling}
-use Rattle.definitions.specs.TreeEdit.{child_trees, over, with_child, with_children}
+use Rattle.definitions.specs.TreeEdit.{child_trees, with_child, with_children}
 use Rattle.definitions.proofs.Lists.{map_take, map_drop, map_set}
 
 pub forest_map : (es : List Entry) (ns : List ℕ) → trees_at es ns ≡ forest (map (tree_at es) ns)

@@ -18,7 +18,7 @@ use Rattle.green.specs.Store.{Store, limits, entries, both}
 use Rattle.green_new.specs.Done.{Done}
 use Rattle.green.specs.Valid.{Valid}
 use Rattle.cursor.specs.declared.position.Cursor.{Cursor}
-use Rattle.cursor.specs.Position.{at, Placed}
+use Rattle.cursor.specs.Position.{Placed}
 use Rattle.syntax_text.specs.declared.text.Checked.TheVariants.{Within}
 use Rattle.syntax_text.specs.Text.{nowhere_at, astray_at, Checks}
 use Rattle.syntax_text_chunks.specs.Chunks.{top_of, ChunkComing, KeptPlace, ChunkKept}

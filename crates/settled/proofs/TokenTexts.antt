@@ -1,6 +1,6 @@
 -- What `notes_token_text` tells is demand 3's row for the text of a token (`tokenTexts`): the bytes between its two words, or its refusal. Assumes nothing.
 use Prim.Native.Nat.{ℕ, ◌-◌, ◌≤◌}
-use mathlib.Core.Path.{◌≡◌, refl, sym, ap, ◌∙◌}
+use mathlib.Core.Path.{◌≡◌, refl, sym, ◌∙◌}
 use mathlib.Core.List.{List}
 use mathlib.Core.Bool.{Bool, true, false, cond, not, ◌||◌, ◌&&◌}
 use mathlib.Core.Option.{Option, none, some, bind}

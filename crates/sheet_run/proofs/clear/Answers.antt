@@ -1,5 +1,4 @@
 -- `clear` meets its contract: the first i registers are 0.
-use Prim.Native.Nat.{◌-◌}
 use Rattle.sheet_run.proofs.Clearing.{cleared_none, cleared_one, cleared_all}
 use Rattle.sheet_run.proofs.clear.Goals as goal
 

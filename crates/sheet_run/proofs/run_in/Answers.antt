@@ -1,5 +1,4 @@
 -- `run_in` meets its contract.
-use Prim.Native.Nat.{◌-◌}
 use native.Mathlib.Omega.{arith}
 use mathlib.Core.Path.{refl, sym, ◌∙◌}
 use Rattle.definitions.proofs.Sheets.{well_formed}

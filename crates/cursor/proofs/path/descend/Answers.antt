@@ -1,5 +1,4 @@
 -- `descend` meets its contract.
-use Prim.Native.Nat.{◌-◌}
 use native.Mathlib.Omega.{arith}
 use mathlib.Core.Path.{refl, ap, ◌∙◌}
 use Rattle.cursor.specs.Path.{is_remembered}

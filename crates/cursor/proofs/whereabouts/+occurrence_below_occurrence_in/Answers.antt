@@ -1,5 +1,4 @@
 -- `occurrence_below` and `occurrence_in` meet their contracts: the height falls from a node to its child.
-use Prim.Native.Nat.{◌-◌}
 use native.Mathlib.Omega.{arith}
 use lib.ListN.{length-set}
 use borrow.Author.Rules.{rules}

@@ -1,5 +1,4 @@
 -- `descend` meets its contract.
-use Prim.Native.Nat.{◌-◌}
 use native.Mathlib.Omega.{arith}
 use mathlib.Core.Path.{◌∙◌}
 use Rattle.cursor.proofs.Positions.{inner, leaf}

@@ -1,5 +1,4 @@
 -- `copy_indexes` meets its contract.
-use Prim.Native.Nat.{◌-◌}
 use native.Mathlib.Omega.{arith}
 use native.Mathlib.Nat.{le_antisymm}
 use mathlib.Core.Path.{refl, ap, ◌∙◌}

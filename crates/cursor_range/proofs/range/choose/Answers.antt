@@ -1,7 +1,6 @@
 -- `choose` meets its contract.
 use native.Mathlib.Omega.{arith}
-use mathlib.Core.Logic.{⊎_elim}
-use borrow.Author.Tests.{eqb-true, eqb-false, ltb-true, ltb-false}
+use borrow.Author.Tests.{eqb-true, ltb-true}
 use Rattle.cursor_range.proofs.Choosing.{no_child_chosen, short_chosen, before_chosen, last_chosen}
 use Rattle.cursor_range.proofs.range.choose.Goals as goal
 use Rattle.cursor_range.proofs.range.choose.Goals.{else-last-gt0-via-then-last-gt0+then-child-end+else-end-child_end, else-last-gt0-via-then-last-gt0+else-child-end, else-last-gt0-via-else-last-gt0}

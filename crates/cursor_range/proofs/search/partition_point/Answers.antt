@@ -1,5 +1,4 @@
 -- `partition_point` meets its contract.
-use Prim.Native.Nat.{◌-◌}
 use Rattle.cursor_range.proofs.Searching.{all_left, found}
 use Rattle.cursor_range.proofs.search.partition_point.Goals as goal
 

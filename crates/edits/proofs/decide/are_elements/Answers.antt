@@ -1,5 +1,4 @@
 -- `are_elements` meets its contract: what is left gives the answer.
-use Prim.Native.Nat.{◌-◌}
 use native.Mathlib.Omega.{arith}
 use mathlib.Core.Path.{refl}
 use Rattle.definitions.proofs.Entries.{present_start, absent_here, present_next, present_all}

@@ -1,5 +1,4 @@
 -- `copy_places` meets its contract: after i turns the first i places are copied.
-use Prim.Native.Nat.{◌-◌}
 use native.Mathlib.Omega.{arith}
 use Rattle.edits.proofs.Copying.{copied_none, copied_all, source_there, target_there, movable, copied_more}
 use Rattle.edits.proofs.push.copy_places.Goals as goal

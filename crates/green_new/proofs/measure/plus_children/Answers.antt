@@ -1,5 +1,4 @@
 -- `plus_children` meets its contract: after i turns the first i of them are added.
-use Prim.Native.Nat.{◌-◌}
 use native.Mathlib.Omega.{arith}
 use mathlib.Core.Path.{ap}
 use Rattle.green.specs.Answers.{Place}

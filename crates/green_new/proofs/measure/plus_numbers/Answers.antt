@@ -1,5 +1,4 @@
 -- `plus_numbers` meets its contract: after i turns the first i of them are added.
-use Prim.Native.Nat.{◌-◌}
 use Rattle.green.proofs.Answering.{child_known}
 use Rattle.green_new.proofs.Adding.{adding_none, adding_room, adding_more, adding_all}
 use Rattle.green_new.proofs.measure.plus_numbers.Goals as goal

@@ -1,5 +1,5 @@
 -- `token_hash` meets its contract.
-use Prim.Native.Nat.{ℕ, ◌-◌}
+use Prim.Native.Nat.{ℕ}
 use mathlib.Core.Path.{ap, ◌∙◌}
 use Rattle.definitions.specs.Hash.{add_word, token_hash}
 use Rattle.definitions.proofs.Hashing.{taken_none, taken_more, taken_all}

@@ -1,5 +1,4 @@
 -- `put_children` meets its contract: after i turns the first i places are written.
-use Prim.Native.Nat.{◌-◌}
 use native.Mathlib.Omega.{arith}
 use Rattle.green_new.proofs.Children.{put_none, put_one, put_all, number_small, number_record, place_bound, offset_bound, len_bound}
 use Rattle.green_new.proofs.node.put_children.Goals as goal

@@ -1,6 +1,5 @@
 -- `put_bytes` meets its contract: the loop has copied the first i bytes.
 use mathlib.Core.Path.{refl, ◌∙◌, ap}
-use Prim.Native.Nat.{◌-◌}
 use native.Mathlib.Omega.{arith}
 use native.Mathlib.Numerals.{add-one}
 use native.Mathlib.Nat.{le_antisymm}

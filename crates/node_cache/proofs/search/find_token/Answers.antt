@@ -1,5 +1,4 @@
 -- `find_token` meets its contract.
-use Prim.Native.Nat.{◌-◌}
 use native.Mathlib.Omega.{arith}
 use mathlib.Core.Path.{◌∙◌}
 use Rattle.definitions.proofs.Sharing.{sought_start, sought_hit, sought_next, sought_end}

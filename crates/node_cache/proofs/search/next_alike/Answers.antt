@@ -1,5 +1,4 @@
 -- `next_alike` meets its contract.
-use Prim.Native.Nat.{◌-◌}
 use native.Mathlib.Omega.{arith}
 use Rattle.green.proofs.Known.{number_bound, known, count_records}
 use Rattle.node_cache.proofs.Seeking.{none_passed, other_passed, stop_alike, stop_end}

@@ -1,5 +1,4 @@
 -- `same_bytes` meets its contract.
-use Prim.Native.Nat.{◌-◌}
 use native.Mathlib.Omega.{arith}
 use Rattle.definitions.proofs.Comparing.{unequal_lengths, compared_start, compared_differ, compared_next, compared_end}
 use Rattle.node_cache.proofs.search.same_bytes.Goals as goal

@@ -1,5 +1,4 @@
 -- `same_children` meets its contract.
-use Prim.Native.Nat.{◌-◌}
 use native.Mathlib.Omega.{arith}
 use mathlib.Core.Path.{ap}
 use Rattle.definitions.proofs.Comparing.{compared_end}

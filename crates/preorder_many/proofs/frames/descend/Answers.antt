@@ -1,5 +1,4 @@
 -- `descend` meets its contract.
-use Prim.Native.Nat.{◌-◌}
 use mathlib.Core.Path.{sym, ◌∙◌}
 use Rattle.definitions.proofs.Laws.{false≢true}
 use Rattle.cursor.proofs.Positions.{inner, leaf}

@@ -1,5 +1,4 @@
 -- `run` meets its contract.
-use Prim.Native.Nat.{◌-◌}
 use mathlib.Core.Path.{refl, sym, ◌∙◌}
 use Rattle.preorder_many.proofs.Run.{going_none, going_on, all_over, all_full}
 use native.Mathlib.Omega.{arith}

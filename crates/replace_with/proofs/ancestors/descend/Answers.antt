@@ -5,7 +5,6 @@ use lib.Seq.{length-take-le}
 use Rattle.green.specs.Answers.{Place}
 use Rattle.green.proofs.Answering.{count_node}
 use Rattle.replace_with.proofs.Descending.{path_more, path_index}
-use Prim.Native.Nat.{◌-◌}
 use native.Mathlib.Omega.{arith}
 use borrow.Author.Tests.{not-true, not-false}
 use Rattle.replace_with.proofs.Descending.{led_nowhere, led_there, down_none, at_token_lem, past_children, down_one, arrived}

@@ -1,5 +1,4 @@
 -- `scan_exchanged` meets its contract.
-use Prim.Native.Nat.{◌-◌}
 use native.Mathlib.Omega.{arith}
 use Rattle.green.proofs.Answering.{count_node}
 use Rattle.replace_with.proofs.Measuring.{scanning_none, scanning_room, scanning_more, scanning_all}

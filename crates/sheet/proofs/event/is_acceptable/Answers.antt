@@ -1,5 +1,4 @@
 -- `is_acceptable` meets its contract: what is left decides.
-use Prim.Native.Nat.{◌-◌}
 use Rattle.definitions.proofs.Judging.{passing_start, passing_stop, passing_next, passing_end}
 use Rattle.sheet.proofs.event.is_acceptable.Goals as goal
 

@@ -1,5 +1,4 @@
 -- `find_in` meets its contract.
-use Prim.Native.Nat.{◌-◌}
 use native.Mathlib.Omega.{arith}
 use Rattle.syntax_text.proofs.Pieces.{node_itself, has_first, token_itself}
 use Rattle.syntax_text.proofs.Finding.{seek, seek_end, seek_spans, seek_found, seek_bound, seek_on}

@@ -1,5 +1,4 @@
 -- `index_of` meets its contract.
-use Prim.Native.Nat.{◌-◌}
 use native.Mathlib.Omega.{arith}
 use mathlib.Core.Path.{refl, sym, ◌∙◌}
 use Rattle.syntax_text.proofs.Finding.{found_here, not_here, found_nowhere}

@@ -1,5 +1,4 @@
 -- `equal_in` meets its contract.
-use Prim.Native.Nat.{◌-◌}
 use native.Mathlib.Omega.{arith}
 use borrow.Author.Tests.{not-true, not-false}
 use Rattle.syntax_text.proofs.Pieces.{node_itself, has_first, token_itself}

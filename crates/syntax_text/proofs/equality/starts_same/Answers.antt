@@ -1,5 +1,4 @@
 -- `starts_same` meets its contract.
-use Prim.Native.Nat.{◌-◌}
 use native.Mathlib.Omega.{arith}
 use mathlib.Core.Path.{refl}
 use Rattle.definitions.proofs.Comparing.{same_more, same_whole, differ_at}

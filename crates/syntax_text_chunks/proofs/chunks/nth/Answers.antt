@@ -1,5 +1,4 @@
 -- `nth` meets its contract.
-use Prim.Native.Nat.{◌-◌}
 use native.Mathlib.Omega.{arith}
 use mathlib.Core.Path.{refl, ◌∙◌}
 use Rattle.syntax_text_chunks.proofs.Chunking.{rebase, top_reached, none_given, reached, one_given, all_given, given_all}

@@ -1,5 +1,4 @@
 -- `go_down` meets its contract.
-use Prim.Native.Nat.{◌-◌}
 use native.Mathlib.Omega.{arith}
 use Rattle.syntax_text_chunks.proofs.Placing.{setting_out, inner_here, child_there, going_turn, going_on, arrived}
 use Rattle.syntax_text_chunks.proofs.place.go_down.Goals.{else-i-count, then-i-count}
