@@ -1,7 +1,7 @@
 #!/usr/bin/env python3
 """Compares the proved program `list` with `oracle list` on random sheets, sound and damaged.
 
-usage: compare_list.py SEED COUNT     (after `rt check list` and `cargo build --release` in this folder)
+usage: compare_list.py SEED COUNT     (after `rt run` in crates/list and `cargo build --release` in this folder)
 
 Each sheet is run by both programs in a temporary folder and their standard output is compared byte for byte.
 """
@@ -14,7 +14,7 @@ import sys
 import tempfile
 
 HERE = os.path.dirname(os.path.abspath(__file__))
-LIST = os.path.join(HERE, "..", "target", "bin", "list")
+LIST = os.path.join(HERE, "..", "crates", "list", "out", "list")
 ORACLE = os.path.join(HERE, "target", "release", "oracle")
 TOKEN, START, FINISH, CHECKPOINT, START_AT, NO_CODE = 1, 2, 3, 4, 5, 6
 
