@@ -1,7 +1,7 @@
 #!/usr/bin/env python3
 """Compares the proved program `list` with `oracle list` on random sheets, sound and damaged.
 
-usage: compare_list.py SEED COUNT     (after `rt run` in crates/list and `cargo build --release` in this folder)
+usage: compare_list.py SEED COUNT     (after the README's first command and `cargo build --release` in this folder)
 
 Each sheet is run by both programs in a temporary folder and their standard output is compared byte for byte.
 """
