@@ -1,7 +1,7 @@
 // A question from its code and operands. The codes count the questions in the order of `questions` in specs/Codes.
 
 ghost use Rattle.std.specs.Prelude.{◌≡◌};
-ghost use Rattle.abi.specs.Codes.{character as characterOf, coded_question, coded_as};
+ghost use Rattle.abi.specs.Codes.{character as character_of, coded_question, coded_as};
 
 use crate::Words;
 use query::question::Question;
@@ -14,7 +14,7 @@ pub enum Coded {
 
 // A character's number; one that is too large for 32 bits is the greatest that fits, which stands nowhere either.
 fn character(x: usize) -> u32
-    ensures { result ≡ characterOf x }
+    ensures { result ≡ character_of x }
 {
     if x < 4294967295 { x as u32 } else { 4294967295 }
 }

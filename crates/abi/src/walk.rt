@@ -1,7 +1,7 @@
 // A walk's state as words. The path of what comes next is lent beside them.
 
 ghost use Rattle.std.specs.Prelude.{◌≡◌, get_or};
-ghost use Rattle.abi.specs.Codes.{flag as flagOf};
+ghost use Rattle.abi.specs.Codes.{flag as flag_of};
 ghost use Rattle.abi.specs.WalkWords.{walk_coming, walk_tokens, coming_in, coming_word, moved_on, begun_in, skipped_in};
 
 use crate::{Words, answer};
@@ -31,7 +31,7 @@ fn coming_word(coming: Coming) -> usize
 
 // Whether a number says with tokens.
 pub fn flag(word: usize) -> bool
-    ensures { result ≡ flagOf word }
+    ensures { result ≡ flag_of word }
 {
     match word {
         0 => false,

@@ -1,4 +1,4 @@
--- What same_element_lem is asked, and what it answers.
+-- What same-element is asked, and what it answers.
 use Rattle.std.specs.Prelude.{ℕ, List, Bool, cond, ◌||◌, take}
 use Rattle.definitions.specs.Prelude.{Result, ok, refused}
 use Rattle.definitions.specs.Entry.{Entry}

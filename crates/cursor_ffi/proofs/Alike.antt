@@ -1,5 +1,5 @@
--- The exported questions answer alike at two trees that are spelled alike, in one store or in two: outcome, words and paths are equal. `questions-alike`
--- says it of every question of one element, `tokens-alike` of the tokens at an offset, `texts-alike` of a token's text. They are cited nowhere, being what a
+-- The exported questions answer alike at two trees that are spelled alike, in one store or in two: outcome, words and paths are equal. `questions_alike`
+-- says it of every question of one element, `tokens_alike` of the tokens at an offset, `texts_alike` of a token's text. They are cited nowhere, being what a
 -- caller may rely on. Assumes nothing.
 use Prim.Native.Nat.{ℕ, ◌+◌, ◌-◌, ◌≤◌}
 use native.Mathlib.Omega.{arith}

@@ -1,5 +1,5 @@
-// The questions that are put most, each as a function for another language (bindings/c/notes_tree.h). They stand in a library of their own, apart
-// from the dispatcher: a query with two callers would stay out of line in both.
+// The questions that are put most, each as a function whose answer is numbers, for another language. `cursor_ffi_c` gives them the names that C
+// calls (bindings/c/notes_tree.h). They stand apart from the dispatcher: a query with two callers would stay out of line in both.
 
 #![tactic(auto)]
 

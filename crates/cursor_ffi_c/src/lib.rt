@@ -1,4 +1,5 @@
-// What `cursor_ffi` has, under the names that C calls: the questions that are put most. Each export calls the library's function of its name and states its clauses again.
+// What C calls of `cursor_ffi` (bindings/c/notes_tree.h): each export calls the library's function of its name and states its clauses again,
+// since a library exports nothing itself.
 
 #![tactic(auto)]
 

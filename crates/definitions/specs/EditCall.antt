@@ -8,7 +8,7 @@ use Rattle.definitions.specs.Edit as edits
 use Rattle.definitions.specs.Spelling.{Spelling, spelled_at}
 use Rattle.definitions.specs.TreeEdit.{with_child, with_children, put, new_ancestors, last_place}
 
--- an edit, with all that it is given but the store; `replaceWith`: a root, how many indexes of the lent path, that path, and the replacement
+-- an edit, with all that it is given but the store; `replace_with`: a root, how many indexes of the lent path, that path, and the replacement
 pub data Edit : Type 0 where
   replace_child insert_child : ℕ → ℕ → ℕ → Edit
   remove_child : ℕ → ℕ → Edit

@@ -1,6 +1,6 @@
-#![tactic(auto)]
-
 // What `replay` answers to the calls of a script that make records: the run of a sheet, in `runs`, and edits, in `edit`.
+
+#![tactic(auto)]
 
 ghost use Rattle.green.specs.Store.{store};
 ghost use Rattle.green.specs.Valid.{Valid};

@@ -1,7 +1,7 @@
-#![tactic(auto)]
-
 // What the programs read and write: files by name, here, their arguments, in `arguments`, and standard output, in `out`. What
 // cannot be opened, read or written is named on standard error.
+
+#![tactic(auto)]
 
 ghost use Rattle.std.specs.Prelude.{◌≤◌, length};
 

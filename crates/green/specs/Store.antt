@@ -19,21 +19,22 @@ counts_of records children text = records ∷ children ∷ text ∷ 0 ∷ 0 ∷ 
 abbrev pub store : List ℕ → List ℕ → List ℕ → List ℕ → Store
 store r c t u = record { records = r; children = c; text = t; used = u }
 
--- the store as it lies behind the references that a contract names
+-- the store behind four `&` of a contract; where one of them is a `&mut`, the contract writes `store` with what is old and new
 abbrev pub here : Bor (List ℕ) → Bor (List ℕ) → Bor (List ℕ) → Bor (List ℕ) → Store
 here r c t u = store r.now c.now t.now u.now
 
--- the same from what an `ensures` has: the store as the function was called
+-- the same from what an `ensures` has of a `&`
 abbrev pub entered : {A B C D : Type 0} → Both (Bor (List ℕ)) A → Both (Bor (List ℕ)) B → Both (Bor (List ℕ)) C → Both (Bor (List ℕ)) D → Store
 entered r c t u = here r.entry c.entry t.entry u.entry
 
--- and both: as it was called, and as it returns
+-- of a `&mut`, what an `ensures` has: as the function was called, and as it returns
 abbrev pub Lists : Type 0
 Lists = Both (MutBor (List ℕ)) (MutBor (List ℕ))
 
 abbrev pub both : {A : Type 0} → A → A → Both A A
 both a a' = record { entry = a; exit = a' }
 
+-- the store behind four `&mut`, as the function was called and as it returns
 abbrev pub stores : Lists → Lists → Lists → Lists → Both Store Store
 stores r c t u = both (store r.entry.now c.entry.now t.entry.now u.entry.now) (store r.exit.now c.exit.now t.exit.now u.exit.now)
 

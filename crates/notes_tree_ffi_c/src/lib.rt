@@ -1,4 +1,5 @@
-// What `notes_tree_ffi` has, under the names that C calls: the calls that write a store, any question by its code, records, and walks and chunks carried on. Each export calls the library's function of its name and states its clauses again.
+// What C calls of `notes_tree_ffi` (bindings/c/notes_tree.h): each export calls the library's function of its name and states its clauses again,
+// since a library exports nothing itself.
 
 #![tactic(auto)]
 

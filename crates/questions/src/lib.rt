@@ -1,5 +1,3 @@
-#![tactic(auto)]
-
 // What the calls of a script ask, and what it keeps from call to call. Nothing here is lent the store or the output.
 //
 // `asked` has what is put to the port, in one form for queries, walks that begin and texts: a question, a root and a depth by
@@ -8,6 +6,8 @@
 //
 // For the crates above: a slot is asked to be one of the eight, and a place in it one of its words; that is all that any of these
 // functions asks.
+
+#![tactic(auto)]
 
 pub mod asked;
 pub mod path_calls;

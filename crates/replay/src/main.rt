@@ -1,7 +1,7 @@
-#![tactic(auto)]
-
 // The program `replay`: puts the calls of a script (docs/REPLAY.md) to the port, and prints the replies. Here the file and
 // the script's stores, in `calls` the calls on one store.
+
+#![tactic(auto)]
 
 mod calls;
 

@@ -1,4 +1,4 @@
--- What `notes_token_text` tells is demand 3's row for the text of a token (`tokenTexts`): the bytes between its two words, or its refusal. Assumes nothing.
+-- What `notes_token_text` tells is demand 3's row for the text of a token (`token_texts`): the bytes between its two words, or its refusal. Assumes nothing.
 use Prim.Native.Nat.{ℕ, ◌-◌, ◌≤◌}
 use mathlib.Core.Path.{◌≡◌, refl, sym, ◌∙◌}
 use mathlib.Core.List.{List}
