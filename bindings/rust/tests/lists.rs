@@ -140,7 +140,7 @@ fn every_question_has_a_code_and_a_call() {
 fn exported_calls_are_declared() {
     let sources = [files("crates/cursor_ffi_c/src", ".rt"), files("crates/notes_tree_ffi_c/src", ".rt")].concat().concat();
     let mut exported: Vec<&str> =
-        sources.split("extern \"C\" fn ").skip(1).map(|rest| rest.split('(').next().unwrap()).collect();
+        sources.split("extern \"C\" fn ").skip(1).map(|rest| rest.split(['(', '<']).next().unwrap()).collect();
     exported.sort_unstable();
     let text = file("bindings/c/notes_tree.h")
         .replace("NOTES_QUESTION(name) size_t notes_##name", "")

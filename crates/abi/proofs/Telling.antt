@@ -4,7 +4,9 @@ use native.Mathlib.Omega.{arith}
 use mathlib.Core.Path.{◌≡◌, refl, sym, ap, ◌∙◌}
 use mathlib.Core.List.{List, [], ◌∷◌}
 use mathlib.Core.Option.{none}
-use mathlib.Core.Bool.{true}
+use mathlib.Core.Bool.{not}
+use lib.Dec.{eqb}
+use borrow.Author.Tests.{ne_eqb}
 use lib.ListN.{length, get_elem?}
 use lib.Seq.{sets}
 use Rattle.utility_types.specs.Numbers.{refusal_number}
@@ -57,9 +59,9 @@ past_end [] k h = refl
 past_end (x ∷ xs) zero h = absurd (let z : ⊥ = omega (arith, h) in z)
 past_end (x ∷ xs) (suc k) h = past_end xs k (omega (arith, h))
 
-pub flagged : (x : ℕ) → 1 ≤ x → true ≡ flag x
-flagged zero h = absurd (let z : ⊥ = omega (arith, h) in z)
-flagged (suc x) h = refl
+pub flagged : (x : ℕ) → not (eqb x 0) ≡ flag x
+flagged zero = refl
+flagged (suc x) = rw (ne_eqb (suc x) 0 (λ e. omega arith)) refl
 
 pub over : (x : ℕ) → 3 ≤ x → Ended ≡ coming_in x
 over zero h = absurd (let z : ⊥ = omega (arith, h) in z)

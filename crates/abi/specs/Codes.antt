@@ -1,11 +1,9 @@
 -- Which question and which edit a code and its operands are.
-use Rattle.std.specs.Prelude.{ℕ, zero, suc, min, List, [], ◌∷◌, Bool, true, false, get_or}
+use Rattle.std.specs.Prelude.{ℕ, zero, suc, min, List, [], ◌∷◌, Bool, true, false, get_or, Some, None, Option as Optional}
 use Rattle.std.proofs.Math.Option.{Option, none, some}
 use Rattle.std.proofs.Math.ListN.{get_elem?}
 use Rattle.query.specs.declared.question.Question.{Question}
 use Rattle.query.specs.declared.question.Question.TheVariants as question
-use Rattle.abi.specs.declared.question.Coded.{Coded}
-use Rattle.abi.specs.declared.question.Coded.TheVariants as coded
 
 -- operand i of m
 abbrev pub operand : List ℕ → ℕ → ℕ
@@ -54,6 +52,6 @@ questions m =
 abbrev pub coded_question : ℕ → List ℕ → Option Question
 coded_question code m = get_elem? (questions m) code
 
-abbrev pub coded_as : Coded → Option Question
-coded_as (coded.Question q) = some q
-coded_as coded.Unknown = none
+abbrev pub coded_as : Optional Question → Option Question
+coded_as (Some q) = some q
+coded_as None = none

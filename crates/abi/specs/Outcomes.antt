@@ -1,33 +1,22 @@
 -- Which outcome and which words each answer is.
-use Rattle.std.specs.Prelude.{ℕ, zero, suc, ◌+◌, ◌≡◌, List, [], ◌∷◌, Bool, true, false}
+use Rattle.std.specs.Prelude.{ℕ, zero, suc, ◌+◌, ◌≡◌, List, [], ◌∷◌, Bool, true, false, Ok, Err, Some, None, Option as Optional}
 use Rattle.std.proofs.lemmas.List.Edits.{sets}
 use Rattle.green.specs.Store.{Lists}
-use Rattle.green.specs.declared.element.Summarized.{Summarized}
-use Rattle.green.specs.declared.element.Summarized.TheVariants as summarized
-use Rattle.green.specs.declared.node.ChildAt.{ChildAt}
-use Rattle.green.specs.declared.node.ChildAt.TheVariants as child
-use Rattle.utility_types.specs.Numbers.{refusal_number}
+use Rattle.utility_types.specs.Numbers.{refusal_number, OrRefusal}
 use Rattle.utility_types.specs.declared.Refusal.{Refusal}
-use Rattle.utility_types.specs.declared.Made.{Made}
-use Rattle.utility_types.specs.declared.Made.TheVariants as made
 use Rattle.utility_types.specs.declared.SyntaxElement.{SyntaxElement}
 use Rattle.utility_types.specs.declared.WalkEvent.TheVariants.{Enter, Leave}
 use Rattle.utility_types.specs.declared.TokenAtOffset.{TokenAtOffset}
 use Rattle.utility_types.specs.declared.TokenAtOffset.TheVariants as tokens
-use Rattle.cursor.specs.declared.position.Answer.{Answer}
-use Rattle.cursor.specs.declared.position.Answer.TheVariants as answer
-use Rattle.cursor_range.specs.declared.offset.Tokens.{Tokens}
-use Rattle.cursor_range.specs.declared.offset.Tokens.TheVariants as offset
-use Rattle.preorder.specs.declared.state.Answer as walk
-use Rattle.preorder.specs.declared.state.Answer.TheVariants as event
-use Rattle.preorder.specs.declared.state.Moved.{Moved}
-use Rattle.preorder.specs.declared.state.Moved.TheVariants as moved
+use Rattle.utility_types.specs.declared.WalkEvent.{WalkEvent}
 use Rattle.preorder_many.specs.declared.state.Stop.{Stop}
 use Rattle.preorder_many.specs.declared.state.Stop.TheVariants as stop
 use Rattle.query.specs.declared.reply.Reply.{Reply}
 use Rattle.query.specs.declared.reply.Reply.TheVariants as reply
-use Rattle.sheet.specs.declared.Ended.{Ended}
-use Rattle.sheet.specs.declared.Ended.TheVariants as ended
+use Rattle.preorder.specs.declared.state.Ahead.{Ahead}
+use Rattle.green.specs.declared.element.Summary.{Summary}
+use Rattle.green.specs.declared.node.Child.{Child}
+use Rattle.sheet.specs.Ended.{Ended}
 
 -- what a call returns, and the words that it writes
 pub record Output : Type 0 where
@@ -97,10 +86,10 @@ element_words e = e.start ∷ e.end ∷ e.depth ∷ e.kind.0 ∷ []
 abbrev pub element_told : SyntaxElement → Output
 element_told e = told (element_kind e.is_node) (element_words e)
 
-abbrev pub answer_told : Answer → Output
-answer_told (answer.Element e) = element_told e
-answer_told answer.None = told none_outcome []
-answer_told (answer.Refused x) = refused_by x
+abbrev pub answer_told : OrRefusal (Optional SyntaxElement) → Output
+answer_told (Ok (Some e)) = element_told e
+answer_told (Ok None) = told none_outcome []
+answer_told (Err x) = refused_by x
 
 -- one token, or two, the left one's words first
 abbrev pub at_offset_told : TokenAtOffset → Output
@@ -108,9 +97,9 @@ at_offset_told tokens.None = told none_outcome []
 at_offset_told (tokens.Single e) = told token_outcome (element_words e)
 at_offset_told (tokens.Between e f) = told pair_outcome (e.start ∷ e.end ∷ e.depth ∷ e.kind.0 ∷ f.start ∷ f.end ∷ f.depth ∷ f.kind.0 ∷ [])
 
-abbrev pub tokens_told : Tokens → Output
-tokens_told (offset.At t) = at_offset_told t
-tokens_told (offset.Refused x) = refused_by x
+abbrev pub tokens_told : OrRefusal TokenAtOffset → Output
+tokens_told (Ok t) = at_offset_told t
+tokens_told (Err x) = refused_by x
 
 abbrev pub truth_told : Bool → Output
 truth_told true = told yes_outcome []
@@ -129,13 +118,13 @@ reply_told (reply.Path d) = told path_outcome (d ∷ [])
 reply_told (reply.Refused x) = refused_by x
 
 -- what a call that makes records answers, and the run of a sheet: a refused one says which event it was
-abbrev pub made_told : Made → Output
-made_told (made.Number n) = told number_outcome (n ∷ [])
-made_told (made.Refused x) = refused_by x
+abbrev pub made_told : OrRefusal ℕ → Output
+made_told (Ok n) = told number_outcome (n ∷ [])
+made_told (Err x) = refused_by x
 
 abbrev pub ended_told : Ended → Output
-ended_told (ended.Root n) = told number_outcome (n ∷ [])
-ended_told (ended.Refused x i) = told (100 + refusal_number x) (i ∷ [])
+ended_told (Ok n) = told number_outcome (n ∷ [])
+ended_told (Err (x, i)) = told (100 + refusal_number x) (i ∷ [])
 
 -- a walk's event: the element's words, then 1 for a node and 0 for a token
 abbrev pub bit : Bool → ℕ
@@ -145,16 +134,16 @@ bit false = 0
 abbrev pub step_words : SyntaxElement → List ℕ
 step_words e = e.start ∷ e.end ∷ e.depth ∷ e.kind.0 ∷ bit e.is_node ∷ []
 
-abbrev pub event_told : walk.Answer → Output
-event_told (event.Event (Enter e)) = told enter_outcome (step_words e)
-event_told (event.Event (Leave e)) = told leave_outcome (step_words e)
-event_told event.Ended = told none_outcome []
-event_told (event.Refused x) = refused_by x
+abbrev pub event_told : OrRefusal (Optional WalkEvent) → Output
+event_told (Ok (Some (Enter e))) = told enter_outcome (step_words e)
+event_told (Ok (Some (Leave e))) = told leave_outcome (step_words e)
+event_told (Ok None) = told none_outcome []
+event_told (Err x) = refused_by x
 
 -- a walk that begins or is skipped on
-abbrev pub moved_told : Moved → Output
-moved_told (moved.To a) = told done_outcome []
-moved_told (moved.Refused x) = refused_by x
+abbrev pub moved_told : OrRefusal Ahead → Output
+moved_told (Ok a) = told done_outcome []
+moved_told (Err x) = refused_by x
 
 -- many events: why no more came, and how many did. Only the first event can be refused (`Stops` in preorder_many), so that a refused call
 -- has no events to count, and writes no word
@@ -170,13 +159,13 @@ chunk_told (suc zero) from to = told none_outcome []
 chunk_told (suc (suc o)) from to = told (100 + suc (suc o)) []
 
 -- what a record keeps of its element, and a node's child: its number, and its offset in the node
-abbrev pub summary_told : Summarized → Output
-summary_told (summarized.Of s) = told (element_kind s.is_node) (s.kind.0 ∷ s.len ∷ s.size ∷ s.height ∷ s.children ∷ [])
-summary_told (summarized.Refused x) = refused_by x
+abbrev pub summary_told : OrRefusal Summary → Output
+summary_told (Ok s) = told (element_kind s.is_node) (s.kind.0 ∷ s.len ∷ s.size ∷ s.height ∷ s.children ∷ [])
+summary_told (Err x) = refused_by x
 
-abbrev pub child_told : ChildAt → Output
-child_told (child.Found c) = told number_outcome (c.number ∷ c.offset ∷ [])
-child_told (child.Refused x) = refused_by x
+abbrev pub child_told : OrRefusal Child → Output
+child_told (Ok c) = told number_outcome (c.number ∷ c.offset ∷ [])
+child_told (Err x) = refused_by x
 
 -- IT IS TOLD: the outcome r is returned, and of the lent words just those of the answer are written, from the first on
 pub record OutputWritten (t : Output) (m m' : List ℕ) (r : ℕ) : Type 0 where

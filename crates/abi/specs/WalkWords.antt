@@ -1,13 +1,13 @@
 -- A walk's state as words: what comes next (0 its first event, 1 Enter, 2 Leave, any other number: it is over), how many indexes of the path
 -- lead there, how many led to its start, its root's number, and whether tokens count. All zeros is a new walk of root 0, of nodes only.
-use Rattle.std.specs.Prelude.{ℕ, zero, suc, ◌≤◌, List, [], ◌∷◌, Bool, get_or}
+use Rattle.std.specs.Prelude.{ℕ, zero, suc, ◌≤◌, List, [], ◌∷◌, Bool, get_or, Ok, Err}
 use Rattle.std.proofs.lemmas.List.Edits.{sets}
 use Rattle.preorder.specs.declared.state.Coming.{Coming}
 use Rattle.preorder.specs.declared.state.Coming.TheVariants.{First, Enter, Leave, Ended}
-use Rattle.preorder.specs.declared.state.Moved.{Moved}
-use Rattle.preorder.specs.declared.state.Moved.TheVariants as moved
 use Rattle.abi.specs.Codes.{flag}
 use Rattle.abi.specs.Outcomes.{bit}
+use Rattle.utility_types.specs.Numbers.{OrRefusal}
+use Rattle.preorder.specs.declared.state.Ahead.{Ahead}
 
 abbrev pub coming_in : ℕ → Coming
 coming_in zero = First
@@ -45,11 +45,11 @@ abbrev pub moved_on : List ℕ → Coming → ℕ → List ℕ
 moved_on w c d = sets w 0 (coming_word c ∷ d ∷ [])
 
 -- a walk that has begun at `depth` indexes, or has not
-abbrev pub begun_in : List ℕ → ℕ → Bool → Moved → List ℕ
-begun_in w root tokens (moved.To a) = sets w 0 (coming_word a.coming ∷ a.depth ∷ a.depth ∷ root ∷ bit tokens ∷ [])
-begun_in w root tokens (moved.Refused x) = w
+abbrev pub begun_in : List ℕ → ℕ → Bool → OrRefusal Ahead → List ℕ
+begun_in w root tokens (Ok a) = sets w 0 (coming_word a.coming ∷ a.depth ∷ a.depth ∷ root ∷ bit tokens ∷ [])
+begun_in w root tokens (Err x) = w
 
 -- a walk that was skipped on, or was not
-abbrev pub skipped_in : List ℕ → Moved → List ℕ
-skipped_in w (moved.To a) = moved_on w a.coming a.depth
-skipped_in w (moved.Refused x) = w
+abbrev pub skipped_in : List ℕ → OrRefusal Ahead → List ℕ
+skipped_in w (Ok a) = moved_on w a.coming a.depth
+skipped_in w (Err x) = w

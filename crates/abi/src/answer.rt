@@ -9,17 +9,13 @@ ghost use Rattle.utility_types.specs.declared.TokenAtOffset.TheVariants.{Between
 ghost use Rattle.abi.specs.Outcomes.{told, element_kind, element_told, step_words, bit as bit_of, at_offset_told, answer_told, tokens_told, truth_told, reply_told, made_told, ended_told, event_told, moved_told, given_told, chunk_told, summary_told, child_told, Puts};
 
 use crate::Words;
-use cursor::position::Answer;
-use cursor_range::offset::Tokens;
-use green::element::Summarized;
-use green::node::ChildAt;
-use preorder::state::{Answer as WalkAnswer, Moved};
+use green::element::Summary;
+use green::node::Child;
+use preorder::state::Ahead;
 use preorder_many::state::Stop;
 use query::reply::Reply;
 use sheet::Ended;
-use utility_types::{
-    Made, Refusal, SyntaxElement, SyntaxKind, TokenAtOffset, WalkEvent, refusal_number,
-};
+use utility_types::{Refusal, SyntaxElement, TokenAtOffset, WalkEvent, refusal_number};
 
 // The outcome of a code that no call or question has.
 pub const UNKNOWN: usize = 99;
@@ -53,13 +49,13 @@ fn put_element(words: &mut Words, e: SyntaxElement) -> usize
     kind_of(e.is_node)
 }
 
-pub fn put_answer(words: &mut Words, answer: Answer) -> usize
+pub fn put_answer(words: &mut Words, answer: Result<Option<SyntaxElement>, Refusal>) -> usize
     ensures { Puts words (answer_told answer) result }
 {
     match answer {
-        Answer::Element(e) => put_element(words, e),
-        Answer::None => 0,
-        Answer::Refused(why) => refused(why),
+        Ok(Some(e)) => put_element(words, e),
+        Ok(None) => 0,
+        Err(why) => refused(why),
     }
 }
 
@@ -88,12 +84,12 @@ fn put_at_offset(words: &mut Words, tokens: TokenAtOffset) -> usize
     }
 }
 
-pub fn put_tokens(words: &mut Words, tokens: Tokens) -> usize
+pub fn put_tokens(words: &mut Words, tokens: Result<TokenAtOffset, Refusal>) -> usize
     ensures { Puts words (tokens_told tokens) result }
 {
     match tokens {
-        Tokens::At(found) => put_at_offset(words, found),
-        Tokens::Refused(why) => refused(why),
+        Ok(found) => put_at_offset(words, found),
+        Err(why) => refused(why),
     }
 }
 
@@ -135,12 +131,12 @@ pub fn put_reply(words: &mut Words, reply: Reply) -> usize
     }
 }
 
-pub fn put_made(words: &mut Words, made: Made) -> usize
+pub fn put_made(words: &mut Words, made: Result<usize, Refusal>) -> usize
     ensures { Puts words (made_told made) result }
 {
     match made {
-        Made::Number(n) => put_one(words, 5, n),
-        Made::Refused(why) => refused(why),
+        Ok(n) => put_one(words, 5, n),
+        Err(why) => refused(why),
     }
 }
 
@@ -148,8 +144,8 @@ pub fn put_ended(words: &mut Words, ended: Ended) -> usize
     ensures { Puts words (ended_told ended) result }
 {
     match ended {
-        Ended::Root(n) => put_one(words, 5, n),
-        Ended::Refused(why, i) => put_one(words, refused(why), i),
+        Ok(n) => put_one(words, 5, n),
+        Err((why, i)) => put_one(words, refused(why), i),
     }
 }
 
@@ -161,26 +157,24 @@ fn put_event(words: &mut Words, outcome: usize, e: SyntaxElement) -> usize
     outcome
 }
 
-pub fn put_walk(words: &mut Words, answer: WalkAnswer) -> usize
+pub fn put_walk(words: &mut Words, answer: Result<Option<WalkEvent>, Refusal>) -> usize
     ensures { Puts words (event_told answer) result }
 {
     match answer {
-        WalkAnswer::Event(event) => match event {
-            WalkEvent::Enter(e) => put_event(words, 10, e),
-            WalkEvent::Leave(e) => put_event(words, 11, e),
-        },
-        WalkAnswer::Ended => 0,
-        WalkAnswer::Refused(why) => refused(why),
+        Ok(Some(WalkEvent::Enter(e))) => put_event(words, 10, e),
+        Ok(Some(WalkEvent::Leave(e))) => put_event(words, 11, e),
+        Ok(None) => 0,
+        Err(why) => refused(why),
     }
 }
 
 // A walk that begins or is skipped on; it has no words.
-pub fn moved(moved: Moved) -> usize
+pub fn moved(moved: Result<Ahead, Refusal>) -> usize
     ensures { result ≡ (moved_told moved).outcome }
 {
     match moved {
-        Moved::To(_) => 8,
-        Moved::Refused(why) => refused(why),
+        Ok(_) => 8,
+        Err(why) => refused(why),
     }
 }
 
@@ -207,11 +201,11 @@ pub fn put_chunk(words: &mut Words, outcome: usize, from: usize, to: usize) -> u
     }
 }
 
-pub fn put_summary(words: &mut Words, of: Summarized) -> usize
+pub fn put_summary(words: &mut Words, of: Result<Summary, Refusal>) -> usize
     ensures { Puts words (summary_told of) result }
 {
     match of {
-        Summarized::Of(it) => {
+        Ok(it) => {
             let kind = it.kind;
             words[0] = kind.0 as usize;
             words[1] = it.len;
@@ -220,15 +214,15 @@ pub fn put_summary(words: &mut Words, of: Summarized) -> usize
             words[4] = it.children;
             kind_of(it.is_node)
         }
-        Summarized::Refused(why) => refused(why),
+        Err(why) => refused(why),
     }
 }
 
-pub fn put_child(words: &mut Words, of: ChildAt) -> usize
+pub fn put_child(words: &mut Words, of: Result<Child, Refusal>) -> usize
     ensures { Puts words (child_told of) result }
 {
     match of {
-        ChildAt::Found(child) => put_two(words, 5, child.number, child.offset),
-        ChildAt::Refused(why) => refused(why),
+        Ok(child) => put_two(words, 5, child.number, child.offset),
+        Err(why) => refused(why),
     }
 }

@@ -5,7 +5,8 @@ ghost use Rattle.abi.specs.Codes.{flag as flag_of};
 ghost use Rattle.abi.specs.WalkWords.{walk_coming, walk_tokens, coming_in, coming_word, moved_on, begun_in, skipped_in};
 
 use crate::{Words, answer};
-use preorder::state::{Coming, Moved};
+use preorder::state::{Ahead, Coming};
+use utility_types::Refusal;
 
 fn coming_in(word: usize) -> Coming
     ensures { result ≡ coming_in word }
@@ -33,10 +34,7 @@ fn coming_word(coming: Coming) -> usize
 pub fn flag(word: usize) -> bool
     ensures { result ≡ flag_of word }
 {
-    match word {
-        0 => false,
-        _ => true,
-    }
+    word != 0
 }
 
 // What comes next.
@@ -60,11 +58,11 @@ pub fn move_on(walk: &mut Words, coming: Coming, depth: usize)
 }
 
 // A walk of a root that has begun; one that has not leaves the words as they were.
-pub fn begin(walk: &mut Words, root: usize, with_tokens: bool, moved: Moved)
+pub fn begin(walk: &mut Words, root: usize, with_tokens: bool, moved: Result<Ahead, Refusal>)
     ensures { walk.new ≡ begun_in walk.old root with_tokens moved }
 {
     match moved {
-        Moved::To(ahead) => {
+        Ok(ahead) => {
             let then = ahead.coming;
             let depth = ahead.depth;
             walk[0] = coming_word(then);
@@ -73,19 +71,19 @@ pub fn begin(walk: &mut Words, root: usize, with_tokens: bool, moved: Moved)
             walk[3] = root;
             walk[4] = answer::bit(with_tokens);
         }
-        Moved::Refused(_) => {}
+        Err(_) => {}
     }
 }
 
 // A walk that was skipped on; a refused skip leaves the words as they were.
-pub fn skip(walk: &mut Words, moved: Moved)
+pub fn skip(walk: &mut Words, moved: Result<Ahead, Refusal>)
     ensures { walk.new ≡ skipped_in walk.old moved }
 {
     match moved {
-        Moved::To(ahead) => {
+        Ok(ahead) => {
             let then = ahead.coming;
             move_on(walk, then, ahead.depth);
         }
-        Moved::Refused(_) => {}
+        Err(_) => {}
     }
 }

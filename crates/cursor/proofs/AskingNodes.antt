@@ -15,18 +15,15 @@ use Rattle.utility_types.specs.declared.Refusal.{Refusal}
 use Rattle.utility_types.specs.declared.Refusal.TheVariants.{NoSuchElement}
 use Rattle.green.specs.Store.{Store, entries}
 use Rattle.cursor.specs.declared.position.Cursor.{Cursor}
-use Rattle.cursor.specs.declared.position.Answer.TheVariants as answer
 use Rattle.cursor.specs.declared.path.Remember.{Remember}
 use Rattle.cursor.specs.declared.path.Place.{Place}
-use Rattle.cursor.specs.declared.path.Located.{Located}
-use Rattle.cursor.specs.declared.path.Located.TheVariants as located
-use Rattle.cursor.specs.declared.path.LocatedNode.{LocatedNode}
-use Rattle.cursor.specs.declared.path.LocatedNode.TheVariants.{At, Refused}
 use Rattle.cursor.specs.Position.{at, Inner}
 use Rattle.cursor.specs.Path.{named, named_node, node_located_at, NodeFacts, Leads, LeadsToNode}
 use Rattle.cursor.specs.Answers.{Tells, answer_at_path}
 use Rattle.cursor.proofs.Named.{Names}
 use Rattle.cursor.proofs.Asking.{answer_none, answer_of_lem, refused_by_lem, refused_named, refused_4, located_named, located_facts}
+use Rattle.std.specs.Prelude.{Ok, Err}
+use Rattle.utility_types.specs.Numbers.{OrRefusal}
 
 pub of_node_node : (e : Element) → is_node e.tree ≡ true → (a : Result query.Answer) → of_node e a ≡ a
 unfolding of_node
@@ -37,17 +34,17 @@ unfolding of_node
 of_node_token e t a = rw t
 
 -- locate_node, by its tests
-module _ {s : Store} {remember : Remember} {r depth : ℕ} {l : List ℕ} {x : Located} (d : Leads s remember r depth l x) where
-  pub refused_no_node : {why : Refusal} → x ≡ located.Refused why → LeadsToNode s r depth l (Refused why)
+module _ {s : Store} {remember : Remember} {r depth : ℕ} {l : List ℕ} {x : OrRefusal Place} (d : Leads s remember r depth l x) where
+  pub refused_no_node : {why : Refusal} → x ≡ Err why → LeadsToNode s r depth l (Err why)
   unfolding named_node bind
   refused_no_node h = record { says = rw (← (refused_named d h).is) refl; facts = refused_4 d h }
 
-  module _ {p : Place} (h : x ≡ located.At p) where
-    pub token_no_node : is_node (tree_at (entries s) p.at.number) ≡ false → LeadsToNode s r depth l (Refused NoSuchElement)
+  module _ {p : Place} (h : x ≡ Ok p) where
+    pub token_no_node : is_node (tree_at (entries s) p.at.number) ≡ false → LeadsToNode s r depth l (Err NoSuchElement)
     unfolding named_node bind
     token_no_node t = record { says = rw (← (located_named d h).is, t) refl; facts = refl }
 
-    pub node_located : Inner s p.at → LeadsToNode s r depth l (At p.at)
+    pub node_located : Inner s p.at → LeadsToNode s r depth l (Ok p.at)
     unfolding named_node bind
     node_located i = record {
       says = rw (← (located_named d h).is, i.node) refl;
@@ -84,29 +81,29 @@ module _ (o : Option Element) where
       go none e n = f (sym e)
       go (some y) e n = token y e (is_node y.tree) refl n
 
-module _ {s : Store} {r depth : ℕ} {l : List ℕ} {x : LocatedNode} (d : LeadsToNode s r depth l x) where
+module _ {s : Store} {r depth : ℕ} {l : List ℕ} {x : OrRefusal Cursor} (d : LeadsToNode s r depth l x) where
   abbrev es : List Entry
   es = entries s
 
-  pub no_node_4 : {why : Refusal} → x ≡ Refused why → why ≡ NoSuchElement
+  pub no_node_4 : {why : Refusal} → x ≡ Err why → why ≡ NoSuchElement
   no_node_4 h = rw h at d.facts
 
-  pub no_node_named : {why : Refusal} → x ≡ Refused why → {P : Type 0} → (Names es r depth l none → P) → ((e : Element) → Names es r depth l (some e) → is_node e.tree ≡ false → P) → P
+  pub no_node_named : {why : Refusal} → x ≡ Err why → {P : Type 0} → (Names es r depth l none → P) → ((e : Element) → Names es r depth l (some e) → is_node e.tree ≡ false → P) → P
   unfolding named_node
   no_node_named h f g =
       no_node_of (named es r depth l) (sym (ap (node_located_at es depth l) h) ∙ d.says) (λ n. f (record { is = n })) (λ e n. g e (record { is = n }))
 
   -- a question that refuses every token is refused
-  pub no_node_asked : {why : Refusal} → x ≡ Refused why → (q : Question) → ((e : Element) → Names es r depth l (some e) → is_node e.tree ≡ false → ask (tree_at es r) e q ≡ refused 4)
+  pub no_node_asked : {why : Refusal} → x ≡ Err why → (q : Question) → ((e : Element) → Names es r depth l (some e) → is_node e.tree ≡ false → ask (tree_at es r) e q ≡ refused 4)
       → answer_at_path es r depth l q ≡ refused 4
   no_node_asked h q f = no_node_named h (λ n. answer_none n q) (λ e n t. answer_of_lem n q ∙ f e n t)
 
   -- and by the refusal that locate_node answered
-  pub no_node_told : {why : Refusal} → x ≡ Refused why → (q : Question) → ((e : Element) → Names es r depth l (some e) → is_node e.tree ≡ false → ask (tree_at es r) e q ≡ refused 4)
-      → Tells l l (answer_at_path es r depth l q) (answer.Refused why)
+  pub no_node_told : {why : Refusal} → x ≡ Err why → (q : Question) → ((e : Element) → Names es r depth l (some e) → is_node e.tree ≡ false → ask (tree_at es r) e q ≡ refused 4)
+      → Tells l l (answer_at_path es r depth l q) (Err why)
   no_node_told h q f = refused_by_lem (no_node_4 h) (no_node_asked h q f)
 
-  module _ {c : Cursor} (h : x ≡ At c) where
+  module _ {c : Cursor} (h : x ≡ Ok c) where
     pub node_facts : NodeFacts s r depth l c
     node_facts = rw h at d.facts
 

@@ -19,20 +19,16 @@ use Rattle.green.specs.Store.{Store, entries}
 use Rattle.green.specs.Valid.{AllBelow, Valid}
 use Rattle.green.proofs.Known.{count_records}
 use Rattle.cursor.specs.declared.position.Cursor.{Cursor}
-use Rattle.cursor.specs.declared.path.LocatedNode.{LocatedNode}
-use Rattle.cursor.specs.declared.path.LocatedNode.TheVariants as Node-at
 use Rattle.cursor.specs.Position.{Placed, child_count, ChildAt}
 use Rattle.cursor.specs.Path.{IsRootNode}
 use Rattle.cursor.proofs.Telling.{slice_set}
 use Rattle.cursor.proofs.Paths.{root_refused, root_accepted}
 use Rattle.definitions.proofs.Lists.{some_at}
-use Rattle.cursor.specs.declared.whereabouts.Occurrence.{Occurrence}
-use Rattle.cursor.specs.declared.whereabouts.Occurrence.TheVariants.{At, Nowhere}
-use Rattle.cursor.specs.declared.whereabouts.Whereabouts.TheVariants.{Refused}
-use Rattle.cursor.specs.declared.whereabouts.Whereabouts.TheVariants as whereabouts
 use Rattle.utility_types.specs.declared.Refusal.{Refusal}
 use Rattle.utility_types.specs.declared.Refusal.TheVariants.{NoSuchElement}
 use Rattle.cursor.specs.Occurs.{OccurrenceFound, Absent, Searched, Occurs, WhereIsAnswer}
+use Rattle.std.specs.Prelude.{Ok, Err, Some, None, Option as Optional}
+use Rattle.utility_types.specs.Numbers.{OrRefusal}
 
 -- a path that goes on goes on from a child
 module _ (es : List Entry) (n m i : ℕ) (p : List ℕ) (e : number_at es m (i ∷ p) ≡ some n) where
@@ -85,14 +81,14 @@ not_here es n m d a (i ∷ p) e =
     a i w.0 p (rw w.1 x.rest)
 
 module _ {s : Store} {c : Cursor} {n : ℕ} (l : List ℕ) where
-  pub found_here : Placed s c → c.number ≡ n → Occurs (entries s) n c l l (At c.depth)
+  pub found_here : Placed s c → c.number ≡ n → Occurs (entries s) n c l l (Some c.depth)
   unfolding number_at
   found_here h e = record { searched = record { below = omega arith; most = omega (arith, h.deep); here = rw (slice_empty c.depth l) (ap some e); front = refl; back = refl } }
 
-  pub too_low : Placed s c → c.number < n → Occurs (entries s) n c l l Nowhere
+  pub too_low : Placed s c → c.number < n → Occurs (entries s) n c l l None
   too_low h e = record { searched = (refl, λ p q. let z = lower h.known.valid n c.number h.known.within p q in omega arith) }
 
-  pub at_token_lem : Placed s c → (c.number ≡ n → ⊥) → is_node (tree_at (entries s) c.number) ≡ false → Occurs (entries s) n c l l Nowhere
+  pub at_token_lem : Placed s c → (c.number ≡ n → ⊥) → is_node (tree_at (entries s) c.number) ≡ false → Occurs (entries s) n c l l None
   at_token_lem h d t =
       let z = childless (entries s) (tree_at (entries s) c.number) (entry_at (entries s) c.number).children t (h.known.valid.formed c.number h.known.within).over in
       record { searched = (refl, not_here (entries s) n c.number d (λ j g. absurd (let y : length (entry_at (entries s) c.number).children ≡ 0 = rw z refl in omega arith))) }
@@ -110,8 +106,8 @@ module _ {s : Store} {n : ℕ} {c : Cursor} {l l' : List ℕ} {i : ℕ} (g : Not
   pub same_length : length l' ≡ length l
   same_length = ap length g.same
 
-  module _ (h : i < child_count (entries s) c) {r : Cursor} (a : ChildAt s c i r) {l'' : List ℕ} {x : Occurrence} (o : Occurs (entries s) n r l' l'' x) where
-    pub pass : x ≡ Nowhere → NotYetFound s n c l l'' (i + 1)
+  module _ (h : i < child_count (entries s) c) {r : Cursor} (a : ChildAt s c i r) {l'' : List ℕ} {x : Optional ℕ} (o : Occurs (entries s) n r l' l'' x) where
+    pub pass : x ≡ None → NotYetFound s n c l l'' (i + 1)
     pass e =
         let z = subst (Searched (entries s) n r l' l'') e o.searched in
         record {
@@ -126,14 +122,14 @@ module _ {s : Store} {n : ℕ} {c : Cursor} {l l' : List ℕ} {i : ℕ} (g : Not
             let k : i ≡ j = let w = ltb-false j i t in omega arith in
             subst (Absent (entries s) n) (a.number ∙ ap (λ v. get_or (entry_at (entries s) c.number).children v 0) k) y
 
-    module _ {d : ℕ} (e : x ≡ At d) (room : 64 ≤ length l'') where
+    module _ {d : ℕ} (e : x ≡ Some d) (room : 64 ≤ length l'') where
       f : OccurrenceFound (entries s) n r l' l'' d
       f = subst (Searched (entries s) n r l' l'') e o.searched
 
       deep : c.depth < d
       deep = omega (arith, a.depth, f.below)
 
-      pub found_below : Occurs (entries s) n c l (set l'' c.depth i) (At d)
+      pub found_below : Occurs (entries s) n c l (set l'' c.depth i) (Some d)
       unfolding number_at bind
       found_below =
           let ns = (entry_at (entries s) c.number).children in
@@ -149,28 +145,26 @@ module _ {s : Store} {n : ℕ} {c : Cursor} {l l' : List ℕ} {i : ℕ} (g : Not
             };
           }
 
-  pub none_below : (c.number ≡ n → ⊥) → child_count (entries s) c ≤ i → Occurs (entries s) n c l l' Nowhere
+  pub none_below : (c.number ≡ n → ⊥) → child_count (entries s) c ≤ i → Occurs (entries s) n c l l' None
   none_below d h = record { searched = (g.same, not_here (entries s) n c.number d (λ j q. g.none j (omega arith))) }
 
 -- where_is, by its tests
 module _ {s : Store} (v : Valid s) (n r : ℕ) (l : List ℕ) where
-  pub number_refused : get_or s.used 0 0 ≤ n → WhereIsAnswer (entries s) n r l l (Refused NoSuchElement)
+  pub number_refused : get_or s.used 0 0 ≤ n → WhereIsAnswer (entries s) n r l l (Err NoSuchElement)
   number_refused h = record { says = unnamed (rw (absent (entries s) n (omega (arith, count_records s v))) refl); kept = refl }
 
-  module _ {y : LocatedNode} (d : IsRootNode s r y) where
-    pub root_no_node : {why : Refusal} → y ≡ Node-at.Refused why → WhereIsAnswer (entries s) n r l l (Refused why)
+  module _ {y : OrRefusal Cursor} (d : IsRootNode s r y) where
+    pub root_no_node : {why : Refusal} → y ≡ Err why → WhereIsAnswer (entries s) n r l l (Err why)
     root_no_node e = rw (root_refused d e).1 (record { says = unnamed (rw ((root_refused d e).0, or-true (is_absent (entries s) n)) refl); kept = refl })
 
-    module _ (h : n < get_or s.used 0 0) {c : Cursor} (e : y ≡ Node-at.At c) where
+    module _ (h : n < get_or s.used 0 0) {c : Cursor} (e : y ≡ Ok c) where
       both_there : (is_absent (entries s) n || is_no_node (entries s) r) ≡ false
       both_there = rw (present (entries s) n (omega (arith, count_records s v)), (root_accepted d e).0) refl
 
-      module _ {l' : List ℕ} {x : Occurrence} (o : Occurs (entries s) n c l l' x) where
-        from_root : (z : Occurrence) → x ≡ z → Searched (entries s) n (record { number = r; start = 0; depth = 0 }) l l' z
-        from_root z q = subst (λ (c : Cursor). Searched (entries s) n c l l' z) (root_accepted d e).2 (subst (Searched (entries s) n c l l') q o.searched)
-
-        pub where_none : x ≡ Nowhere → WhereIsAnswer (entries s) n r l l' whereabouts.Nowhere
-        where_none q = let z = from_root Nowhere q in record { says = nowhere both_there z.1; kept = z.0 }
-
-        pub where_found : {d : ℕ} → x ≡ At d → WhereIsAnswer (entries s) n r l l' (whereabouts.At d)
-        where_found {d} q = let z = from_root (At d) q in record { says = somewhere both_there z.here; kept = (z.most, z.back) }
+      module _ {l' : List ℕ} {x : Optional ℕ} (o : Occurs (entries s) n c l l' x) where
+        pub where_answered : WhereIsAnswer (entries s) n r l l' (Ok x)
+        where_answered = go x (subst (λ (c : Cursor). Searched (entries s) n c l l' x) (root_accepted d e).2 o.searched)
+          where
+            go : (z : Optional ℕ) → Searched (entries s) n (record { number = r; start = 0; depth = 0 }) l l' z → WhereIsAnswer (entries s) n r l l' (Ok z)
+            go None f = record { says = nowhere both_there f.1; kept = f.0 }
+            go (Some d) f = record { says = somewhere both_there f.here; kept = (f.most, f.back) }

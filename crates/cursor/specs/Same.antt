@@ -1,16 +1,13 @@
 -- What same-element is asked, and what it answers.
 use Rattle.std.specs.Prelude.{ℕ, List, Bool, cond, ◌||◌, take}
-use Rattle.definitions.specs.Prelude.{Result, ok, refused}
+use Rattle.definitions.specs.Prelude.{Result, refused}
 use Rattle.definitions.specs.Entry.{Entry}
 use Rattle.definitions.specs.Identity.{same_element}
-use Rattle.utility_types.specs.Numbers.{refusal_number}
+use Rattle.utility_types.specs.Numbers.{OrRefusal, told}
 use Rattle.utility_types.specs.Paths.{is_too_long}
-use Rattle.cursor.specs.declared.same.Same.{Same}
-use Rattle.cursor.specs.declared.same.Same.TheVariants.{Told, Refused}
 
-abbrev pub says_same : Same → Result Bool
-says_same (Told b) = ok b
-says_same (Refused r) = refused (refusal_number r)
+abbrev pub says_same : OrRefusal Bool → Result Bool
+says_same x = told (λ b. b) x
 
 -- what is asked of two paths
 unfoldable pub same_asked : List Entry → ℕ → ℕ → List ℕ → ℕ → ℕ → List ℕ → Result Bool

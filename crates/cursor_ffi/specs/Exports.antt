@@ -1,5 +1,5 @@
 -- What an exported question promises: document 01's answer, told as an outcome and words, and every index of the lent path.
-use Rattle.std.specs.Prelude.{ℕ, ◌+◌, ◌≤◌, ◌≡◌, List, [], ◌∷◌, cond, length, take, drop}
+use Rattle.std.specs.Prelude.{ℕ, ◌+◌, ◌≤◌, ◌≡◌, List, [], ◌∷◌, cond, length, take, drop, Option as Optional}
 use Rattle.std.proofs.Math.Option.{Option, none, some, bind}
 use Rattle.std.specs.Borrow.{Bor}
 use denote.Triple.Both.{Both}
@@ -10,23 +10,24 @@ use Rattle.definitions.specs.Element.{Element}
 use Rattle.definitions.specs.Query as query
 use Rattle.green.specs.Store.{Store, entries, Lists}
 use Rattle.green.specs.Layout.{first_of}
-use Rattle.cursor.specs.declared.position.Answer.{Answer}
 use Rattle.cursor.specs.Path.{named}
 use Rattle.cursor.specs.Answers.{Tells, answer_at_path}
-use Rattle.cursor_range.specs.declared.offset.Tokens.{Tokens}
 use Rattle.cursor_range.specs.Answers.{TellsTokens}
 use Rattle.utility_types.specs.declared.Refusal.TheVariants.{NoSuchElement}
 use Rattle.abi.specs.Outcomes.{told, chunk_outcome, refused_by, OutputWritten, answer_told, tokens_told}
+use Rattle.utility_types.specs.Numbers.{OrRefusal}
+use Rattle.utility_types.specs.declared.SyntaxElement.{SyntaxElement}
+use Rattle.utility_types.specs.declared.TokenAtOffset.{TokenAtOffset}
 
 -- a is document 01's answer, l and l' the path as it was lent and as it is given back, m and m' the words, x the outcome
 pub record QuestionExported (a : Result query.Answer) (l l' m m' : List ℕ) (x : ℕ) : Type 0 where
-  pub answer : Answer
+  pub answer : OrRefusal (Optional SyntaxElement)
   pub tells : Tells l l' a answer
   pub written : OutputWritten (answer_told answer) m m' x
 
 -- the same of the tokens at an offset, which has two paths
 pub record TokensExported (a : Result query.Answer) (l l' r r' m m' : List ℕ) (x : ℕ) : Type 0 where
-  pub tokens : Tokens
+  pub tokens : OrRefusal TokenAtOffset
   pub tells : TellsTokens l l' r r' a tokens
   pub written : OutputWritten (tokens_told tokens) m m' x
 
@@ -61,6 +62,6 @@ pub record TokenText (es : List Entry) (b : List ℕ) (root : ℕ) (p : List ℕ
   pub token : (t : Tree) → o ≡ some t → TextLies es b root p t m m' x
   pub no_token : o ≡ none → OutputWritten (refused_by NoSuchElement) m m' x
 
-abbrev pub AsksText : {A B : Type 0} → Store → Both (Bor (List ℕ)) A → ℕ → ℕ → Both (Bor (List ℕ)) B → Lists → ℕ → Type 0
-AsksText s text root depth path words x =
-    TokenText (entries s) text.entry.now root (take depth path.entry.now) (named_token (entries s) root depth path.entry.now) words.entry.now words.exit.now x
+abbrev pub AsksText : {A : Type 0} → Store → ℕ → ℕ → Both (Bor (List ℕ)) A → Lists → ℕ → Type 0
+AsksText s root depth path words x =
+    TokenText (entries s) s.text root (take depth path.entry.now) (named_token (entries s) root depth path.entry.now) words.entry.now words.exit.now x

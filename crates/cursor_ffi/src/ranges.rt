@@ -1,19 +1,15 @@
 // The elements at an offset or a range.
 
 ghost use Rattle.definitions.specs.Query.{Question};
-ghost use Rattle.green.specs.Store.{here, entered};
-ghost use Rattle.green.specs.Valid.{Valid};
+ghost use Rattle.green.specs.View.{view};
 ghost use Rattle.cursor_ffi.specs.Exports.{Asks, AsksTokens};
 
 use abi::{Words, answer};
 use cursor_range::{cover, offset, range};
-use green::Counts;
+use green::Store;
 
 pub fn notes_child_or_token_at_range(
-    records: &[u64],
-    children: &[u64],
-    text: &[u8],
-    used: &Counts,
+    store: Store<'_, '_>,
     root: usize,
     path: &mut [u32; 64],
     depth: usize,
@@ -21,20 +17,14 @@ pub fn notes_child_or_token_at_range(
     end: usize,
     words: &mut Words,
 ) -> usize
-    requires { Valid (here records children text used) }
-    ensures { Asks (entered records children text used) root depth path (Question.child_at_range start end) words result }
+    ensures { Asks (view store.entry) root depth path (Question.child_at_range start end) words result }
 {
-    let found = range::child_or_token_at_range(
-        records, children, text, used, root, path, depth, start, end,
-    );
+    let found = range::child_or_token_at_range(store, root, path, depth, start, end);
     answer::put_answer(words, found)
 }
 
 pub fn notes_covering_element(
-    records: &[u64],
-    children: &[u64],
-    text: &[u8],
-    used: &Counts,
+    store: Store<'_, '_>,
     root: usize,
     path: &mut [u32; 64],
     depth: usize,
@@ -42,20 +32,14 @@ pub fn notes_covering_element(
     end: usize,
     words: &mut Words,
 ) -> usize
-    requires { Valid (here records children text used) }
-    ensures { Asks (entered records children text used) root depth path (Question.covering_element start end) words result }
+    ensures { Asks (view store.entry) root depth path (Question.covering_element start end) words result }
 {
-    let found = cover::covering_element(
-        records, children, text, used, root, path, depth, start, end,
-    );
+    let found = cover::covering_element(store, root, path, depth, start, end);
     answer::put_answer(words, found)
 }
 
 pub fn notes_token_at_offset(
-    records: &[u64],
-    children: &[u64],
-    text: &[u8],
-    used: &Counts,
+    store: Store<'_, '_>,
     root: usize,
     left: &mut [u32; 64],
     right: &mut [u32; 64],
@@ -63,11 +47,8 @@ pub fn notes_token_at_offset(
     offset: usize,
     words: &mut Words,
 ) -> usize
-    requires { Valid (here records children text used) }
-    ensures { AsksTokens (entered records children text used) root depth left right offset words result }
+    ensures { AsksTokens (view store.entry) root depth left right offset words result }
 {
-    let found = offset::token_at_offset(
-        records, children, text, used, root, left, right, depth, offset,
-    );
+    let found = offset::token_at_offset(store, root, left, right, depth, offset);
     answer::put_tokens(words, found)
 }

@@ -7,14 +7,14 @@ ghost use Rattle.green.specs.Valid.{Valid};
 ghost use Rattle.cursor_ffi.specs.Exports.{Asks};
 
 use abi::Words;
-use green::Counts;
+use green::{Counts, Store};
 
 #[unsafe(no_mangle)]
-pub extern "C" fn notes_first_child(
-    records: &[u64],
-    children: &[u64],
-    text: &[u8],
-    used: &Counts,
+pub extern "C" fn notes_first_child<'a>(
+    records: &'a [u64],
+    children: &'a [u64],
+    text: &'a [u8],
+    used: &'a Counts,
     root: usize,
     path: &mut [u32; 64],
     depth: usize,
@@ -23,15 +23,26 @@ pub extern "C" fn notes_first_child(
     requires { Valid (here records children text used) }
     ensures { Asks (entered records children text used) root depth path (Question.first_child false) words result }
 {
-    cursor_ffi::children::notes_first_child(records, children, text, used, root, path, depth, words)
+    cursor_ffi::children::notes_first_child(
+        Store {
+            records,
+            children,
+            text,
+            used,
+        },
+        root,
+        path,
+        depth,
+        words,
+    )
 }
 
 #[unsafe(no_mangle)]
-pub extern "C" fn notes_last_child(
-    records: &[u64],
-    children: &[u64],
-    text: &[u8],
-    used: &Counts,
+pub extern "C" fn notes_last_child<'a>(
+    records: &'a [u64],
+    children: &'a [u64],
+    text: &'a [u8],
+    used: &'a Counts,
     root: usize,
     path: &mut [u32; 64],
     depth: usize,
@@ -40,15 +51,26 @@ pub extern "C" fn notes_last_child(
     requires { Valid (here records children text used) }
     ensures { Asks (entered records children text used) root depth path (Question.last_child false) words result }
 {
-    cursor_ffi::children::notes_last_child(records, children, text, used, root, path, depth, words)
+    cursor_ffi::children::notes_last_child(
+        Store {
+            records,
+            children,
+            text,
+            used,
+        },
+        root,
+        path,
+        depth,
+        words,
+    )
 }
 
 #[unsafe(no_mangle)]
-pub extern "C" fn notes_first_child_or_token(
-    records: &[u64],
-    children: &[u64],
-    text: &[u8],
-    used: &Counts,
+pub extern "C" fn notes_first_child_or_token<'a>(
+    records: &'a [u64],
+    children: &'a [u64],
+    text: &'a [u8],
+    used: &'a Counts,
     root: usize,
     path: &mut [u32; 64],
     depth: usize,
@@ -58,16 +80,25 @@ pub extern "C" fn notes_first_child_or_token(
     ensures { Asks (entered records children text used) root depth path (Question.first_child true) words result }
 {
     cursor_ffi::children::notes_first_child_or_token(
-        records, children, text, used, root, path, depth, words,
+        Store {
+            records,
+            children,
+            text,
+            used,
+        },
+        root,
+        path,
+        depth,
+        words,
     )
 }
 
 #[unsafe(no_mangle)]
-pub extern "C" fn notes_last_child_or_token(
-    records: &[u64],
-    children: &[u64],
-    text: &[u8],
-    used: &Counts,
+pub extern "C" fn notes_last_child_or_token<'a>(
+    records: &'a [u64],
+    children: &'a [u64],
+    text: &'a [u8],
+    used: &'a Counts,
     root: usize,
     path: &mut [u32; 64],
     depth: usize,
@@ -77,6 +108,15 @@ pub extern "C" fn notes_last_child_or_token(
     ensures { Asks (entered records children text used) root depth path (Question.last_child true) words result }
 {
     cursor_ffi::children::notes_last_child_or_token(
-        records, children, text, used, root, path, depth, words,
+        Store {
+            records,
+            children,
+            text,
+            used,
+        },
+        root,
+        path,
+        depth,
+        words,
     )
 }

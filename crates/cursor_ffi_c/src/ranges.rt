@@ -6,14 +6,14 @@ ghost use Rattle.green.specs.Valid.{Valid};
 ghost use Rattle.cursor_ffi.specs.Exports.{Asks, AsksTokens};
 
 use abi::Words;
-use green::Counts;
+use green::{Counts, Store};
 
 #[unsafe(no_mangle)]
-pub extern "C" fn notes_child_or_token_at_range(
-    records: &[u64],
-    children: &[u64],
-    text: &[u8],
-    used: &Counts,
+pub extern "C" fn notes_child_or_token_at_range<'a>(
+    records: &'a [u64],
+    children: &'a [u64],
+    text: &'a [u8],
+    used: &'a Counts,
     root: usize,
     path: &mut [u32; 64],
     depth: usize,
@@ -25,16 +25,27 @@ pub extern "C" fn notes_child_or_token_at_range(
     ensures { Asks (entered records children text used) root depth path (Question.child_at_range start end) words result }
 {
     cursor_ffi::ranges::notes_child_or_token_at_range(
-        records, children, text, used, root, path, depth, start, end, words,
+        Store {
+            records,
+            children,
+            text,
+            used,
+        },
+        root,
+        path,
+        depth,
+        start,
+        end,
+        words,
     )
 }
 
 #[unsafe(no_mangle)]
-pub extern "C" fn notes_covering_element(
-    records: &[u64],
-    children: &[u64],
-    text: &[u8],
-    used: &Counts,
+pub extern "C" fn notes_covering_element<'a>(
+    records: &'a [u64],
+    children: &'a [u64],
+    text: &'a [u8],
+    used: &'a Counts,
     root: usize,
     path: &mut [u32; 64],
     depth: usize,
@@ -46,16 +57,27 @@ pub extern "C" fn notes_covering_element(
     ensures { Asks (entered records children text used) root depth path (Question.covering_element start end) words result }
 {
     cursor_ffi::ranges::notes_covering_element(
-        records, children, text, used, root, path, depth, start, end, words,
+        Store {
+            records,
+            children,
+            text,
+            used,
+        },
+        root,
+        path,
+        depth,
+        start,
+        end,
+        words,
     )
 }
 
 #[unsafe(no_mangle)]
-pub extern "C" fn notes_token_at_offset(
-    records: &[u64],
-    children: &[u64],
-    text: &[u8],
-    used: &Counts,
+pub extern "C" fn notes_token_at_offset<'a>(
+    records: &'a [u64],
+    children: &'a [u64],
+    text: &'a [u8],
+    used: &'a Counts,
     root: usize,
     left: &mut [u32; 64],
     right: &mut [u32; 64],
@@ -67,6 +89,17 @@ pub extern "C" fn notes_token_at_offset(
     ensures { AsksTokens (entered records children text used) root depth left right offset words result }
 {
     cursor_ffi::ranges::notes_token_at_offset(
-        records, children, text, used, root, left, right, depth, offset, words,
+        Store {
+            records,
+            children,
+            text,
+            used,
+        },
+        root,
+        left,
+        right,
+        depth,
+        offset,
+        words,
     )
 }

@@ -8,14 +8,14 @@ ghost use Rattle.cursor.specs.Answers.{answer_at_path};
 ghost use Rattle.cursor_ffi.specs.Exports.{Asks, QuestionExported};
 
 use abi::Words;
-use green::Counts;
+use green::{Counts, Store};
 
 #[unsafe(no_mangle)]
-pub extern "C" fn notes_parent(
-    records: &[u64],
-    children: &[u64],
-    text: &[u8],
-    used: &Counts,
+pub extern "C" fn notes_parent<'a>(
+    records: &'a [u64],
+    children: &'a [u64],
+    text: &'a [u8],
+    used: &'a Counts,
     root: usize,
     path: &[u32; 64],
     depth: usize,
@@ -24,15 +24,26 @@ pub extern "C" fn notes_parent(
     requires { Valid (here records children text used) }
     ensures { QuestionExported (answer_at_path (entries (entered records children text used)) root depth path.now Question.parent) path.now path.now words.old words.new result }
 {
-    cursor_ffi::siblings::notes_parent(records, children, text, used, root, path, depth, words)
+    cursor_ffi::siblings::notes_parent(
+        Store {
+            records,
+            children,
+            text,
+            used,
+        },
+        root,
+        path,
+        depth,
+        words,
+    )
 }
 
 #[unsafe(no_mangle)]
-pub extern "C" fn notes_next_sibling(
-    records: &[u64],
-    children: &[u64],
-    text: &[u8],
-    used: &Counts,
+pub extern "C" fn notes_next_sibling<'a>(
+    records: &'a [u64],
+    children: &'a [u64],
+    text: &'a [u8],
+    used: &'a Counts,
     root: usize,
     path: &mut [u32; 64],
     depth: usize,
@@ -42,16 +53,25 @@ pub extern "C" fn notes_next_sibling(
     ensures { Asks (entered records children text used) root depth path (Question.next_sibling false) words result }
 {
     cursor_ffi::siblings::notes_next_sibling(
-        records, children, text, used, root, path, depth, words,
+        Store {
+            records,
+            children,
+            text,
+            used,
+        },
+        root,
+        path,
+        depth,
+        words,
     )
 }
 
 #[unsafe(no_mangle)]
-pub extern "C" fn notes_prev_sibling(
-    records: &[u64],
-    children: &[u64],
-    text: &[u8],
-    used: &Counts,
+pub extern "C" fn notes_prev_sibling<'a>(
+    records: &'a [u64],
+    children: &'a [u64],
+    text: &'a [u8],
+    used: &'a Counts,
     root: usize,
     path: &mut [u32; 64],
     depth: usize,
@@ -61,16 +81,25 @@ pub extern "C" fn notes_prev_sibling(
     ensures { Asks (entered records children text used) root depth path (Question.prev_sibling false) words result }
 {
     cursor_ffi::siblings::notes_prev_sibling(
-        records, children, text, used, root, path, depth, words,
+        Store {
+            records,
+            children,
+            text,
+            used,
+        },
+        root,
+        path,
+        depth,
+        words,
     )
 }
 
 #[unsafe(no_mangle)]
-pub extern "C" fn notes_next_sibling_or_token(
-    records: &[u64],
-    children: &[u64],
-    text: &[u8],
-    used: &Counts,
+pub extern "C" fn notes_next_sibling_or_token<'a>(
+    records: &'a [u64],
+    children: &'a [u64],
+    text: &'a [u8],
+    used: &'a Counts,
     root: usize,
     path: &mut [u32; 64],
     depth: usize,
@@ -80,16 +109,25 @@ pub extern "C" fn notes_next_sibling_or_token(
     ensures { Asks (entered records children text used) root depth path (Question.next_sibling true) words result }
 {
     cursor_ffi::siblings::notes_next_sibling_or_token(
-        records, children, text, used, root, path, depth, words,
+        Store {
+            records,
+            children,
+            text,
+            used,
+        },
+        root,
+        path,
+        depth,
+        words,
     )
 }
 
 #[unsafe(no_mangle)]
-pub extern "C" fn notes_prev_sibling_or_token(
-    records: &[u64],
-    children: &[u64],
-    text: &[u8],
-    used: &Counts,
+pub extern "C" fn notes_prev_sibling_or_token<'a>(
+    records: &'a [u64],
+    children: &'a [u64],
+    text: &'a [u8],
+    used: &'a Counts,
     root: usize,
     path: &mut [u32; 64],
     depth: usize,
@@ -99,6 +137,15 @@ pub extern "C" fn notes_prev_sibling_or_token(
     ensures { Asks (entered records children text used) root depth path (Question.prev_sibling true) words result }
 {
     cursor_ffi::siblings::notes_prev_sibling_or_token(
-        records, children, text, used, root, path, depth, words,
+        Store {
+            records,
+            children,
+            text,
+            used,
+        },
+        root,
+        path,
+        depth,
+        words,
     )
 }

@@ -6,14 +6,14 @@ ghost use Rattle.green.specs.Valid.{Valid};
 ghost use Rattle.cursor_ffi.specs.Exports.{Asks, AsksText};
 
 use abi::Words;
-use green::Counts;
+use green::{Counts, Store};
 
 #[unsafe(no_mangle)]
-pub extern "C" fn notes_first_token(
-    records: &[u64],
-    children: &[u64],
-    text: &[u8],
-    used: &Counts,
+pub extern "C" fn notes_first_token<'a>(
+    records: &'a [u64],
+    children: &'a [u64],
+    text: &'a [u8],
+    used: &'a Counts,
     root: usize,
     path: &mut [u32; 64],
     depth: usize,
@@ -22,15 +22,26 @@ pub extern "C" fn notes_first_token(
     requires { Valid (here records children text used) }
     ensures { Asks (entered records children text used) root depth path Question.first_token words result }
 {
-    cursor_ffi::tokens::notes_first_token(records, children, text, used, root, path, depth, words)
+    cursor_ffi::tokens::notes_first_token(
+        Store {
+            records,
+            children,
+            text,
+            used,
+        },
+        root,
+        path,
+        depth,
+        words,
+    )
 }
 
 #[unsafe(no_mangle)]
-pub extern "C" fn notes_last_token(
-    records: &[u64],
-    children: &[u64],
-    text: &[u8],
-    used: &Counts,
+pub extern "C" fn notes_last_token<'a>(
+    records: &'a [u64],
+    children: &'a [u64],
+    text: &'a [u8],
+    used: &'a Counts,
     root: usize,
     path: &mut [u32; 64],
     depth: usize,
@@ -39,15 +50,26 @@ pub extern "C" fn notes_last_token(
     requires { Valid (here records children text used) }
     ensures { Asks (entered records children text used) root depth path Question.last_token words result }
 {
-    cursor_ffi::tokens::notes_last_token(records, children, text, used, root, path, depth, words)
+    cursor_ffi::tokens::notes_last_token(
+        Store {
+            records,
+            children,
+            text,
+            used,
+        },
+        root,
+        path,
+        depth,
+        words,
+    )
 }
 
 #[unsafe(no_mangle)]
-pub extern "C" fn notes_next_token(
-    records: &[u64],
-    children: &[u64],
-    text: &[u8],
-    used: &Counts,
+pub extern "C" fn notes_next_token<'a>(
+    records: &'a [u64],
+    children: &'a [u64],
+    text: &'a [u8],
+    used: &'a Counts,
     root: usize,
     path: &mut [u32; 64],
     depth: usize,
@@ -56,15 +78,26 @@ pub extern "C" fn notes_next_token(
     requires { Valid (here records children text used) }
     ensures { Asks (entered records children text used) root depth path Question.next_token words result }
 {
-    cursor_ffi::tokens::notes_next_token(records, children, text, used, root, path, depth, words)
+    cursor_ffi::tokens::notes_next_token(
+        Store {
+            records,
+            children,
+            text,
+            used,
+        },
+        root,
+        path,
+        depth,
+        words,
+    )
 }
 
 #[unsafe(no_mangle)]
-pub extern "C" fn notes_prev_token(
-    records: &[u64],
-    children: &[u64],
-    text: &[u8],
-    used: &Counts,
+pub extern "C" fn notes_prev_token<'a>(
+    records: &'a [u64],
+    children: &'a [u64],
+    text: &'a [u8],
+    used: &'a Counts,
     root: usize,
     path: &mut [u32; 64],
     depth: usize,
@@ -73,22 +106,44 @@ pub extern "C" fn notes_prev_token(
     requires { Valid (here records children text used) }
     ensures { Asks (entered records children text used) root depth path Question.prev_token words result }
 {
-    cursor_ffi::tokens::notes_prev_token(records, children, text, used, root, path, depth, words)
+    cursor_ffi::tokens::notes_prev_token(
+        Store {
+            records,
+            children,
+            text,
+            used,
+        },
+        root,
+        path,
+        depth,
+        words,
+    )
 }
 
 #[unsafe(no_mangle)]
-pub extern "C" fn notes_token_text(
-    records: &[u64],
-    children: &[u64],
-    text: &[u8],
-    used: &Counts,
+pub extern "C" fn notes_token_text<'a>(
+    records: &'a [u64],
+    children: &'a [u64],
+    text: &'a [u8],
+    used: &'a Counts,
     root: usize,
     path: &[u32; 64],
     depth: usize,
     words: &mut Words,
 ) -> usize
     requires { Valid (here records children text used) }
-    ensures { AsksText (entered records children text used) text root depth path words result }
+    ensures { AsksText (entered records children text used) root depth path words result }
 {
-    cursor_ffi::tokens::notes_token_text(records, children, text, used, root, path, depth, words)
+    cursor_ffi::tokens::notes_token_text(
+        Store {
+            records,
+            children,
+            text,
+            used,
+        },
+        root,
+        path,
+        depth,
+        words,
+    )
 }

@@ -14,9 +14,6 @@ use Rattle.utility_types.specs.declared.Direction.{Direction}
 use Rattle.utility_types.specs.declared.Refusal.{Refusal}
 use Rattle.utility_types.specs.declared.Direction.TheVariants.{Next, Prev}
 use Rattle.cursor.specs.declared.position.Cursor.{Cursor}
-use Rattle.cursor.specs.declared.position.Answer.TheVariants as answer
-use Rattle.cursor.specs.declared.path.LocatedNode.{LocatedNode}
-use Rattle.cursor.specs.declared.path.LocatedNode.TheVariants.{At, Refused}
 use Rattle.cursor.specs.Position.{at, child_count}
 use Rattle.cursor.specs.Path.{LeadsToNode}
 use Rattle.cursor.specs.Answers.{Tells, answer_at_path}
@@ -24,20 +21,22 @@ use Rattle.cursor.proofs.Positions.{children_count}
 use Rattle.cursor.proofs.AskingNodes.{of_node_token, no_node_told, node_facts, node_asked}
 use Rattle.cursor_node.specs.Children.{ahead, nearest, child_question}
 use Rattle.cursor_node.proofs.Nearest.{all_ahead}
+use Rattle.std.specs.Prelude.{Ok, Err}
+use Rattle.utility_types.specs.Numbers.{OrRefusal}
 
 child_ask : (d : Direction) (t : Tree) (e : Element) (tokens : Bool) → ask t e (child_question d tokens) ≡ of_node e (maybe (nearest d (offered tokens (children e))))
 unfolding ask first_child last_child
 child_ask Next t e tokens = refl
 child_ask Prev t e tokens = refl
 
-module _ {s : Store} {r depth : ℕ} {l : List ℕ} {x : LocatedNode} (d : LeadsToNode s r depth l x) (y : Direction) (tokens : Bool) where
+module _ {s : Store} {r depth : ℕ} {l : List ℕ} {x : OrRefusal Cursor} (d : LeadsToNode s r depth l x) (y : Direction) (tokens : Bool) where
   abbrev es : List Entry
   es = entries s
 
-  pub no_children : {why : Refusal} → x ≡ Refused why → Tells l l (answer_at_path es r depth l (child_question y tokens)) (answer.Refused why)
+  pub no_children : {why : Refusal} → x ≡ Err why → Tells l l (answer_at_path es r depth l (child_question y tokens)) (Err why)
   no_children h = no_node_told d h (child_question y tokens) (λ e n t. child_ask y (tree_at es r) e tokens ∙ of_node_token e t _)
 
-  pub child_asked : {c : Cursor} → x ≡ At c → {n : ℕ} → n ≡ child_count es c
+  pub child_asked : {c : Cursor} → x ≡ Ok c → {n : ℕ} → n ≡ child_count es c
       → maybe (nearest y (offered tokens (ahead y (children (at es (take c.depth l) c)) n))) ≡ answer_at_path es r depth l (child_question y tokens)
   child_asked {c} h e =
       let f = node_facts d h in

@@ -15,14 +15,15 @@ use Rattle.green.specs.Store.{Store, entries}
 use Rattle.utility_types.specs.declared.Direction.{Direction}
 use Rattle.utility_types.specs.declared.Direction.TheVariants.{Next}
 use Rattle.cursor.specs.declared.position.Cursor.{Cursor}
-use Rattle.cursor.specs.declared.position.Answer.{Answer}
-use Rattle.cursor.specs.declared.position.Answer.TheVariants.{None}
 use Rattle.cursor.specs.Position.{at, Inner, child_count, ChildAt}
 use Rattle.cursor.specs.Answers.{Tells}
 use Rattle.cursor.proofs.Positions.{children_count}
 use Rattle.cursor.proofs.Telling.{none_told, told_as}
 use Rattle.cursor_node.specs.Children.{ahead, nearest, nearest_index, PassesTo, FirstFrom}
 use Rattle.cursor_node.proofs.Nearest.{head_drop, token_passed, node_nearest, nearest_at, none_ahead, nearest_none, no_node_child, no_node_ahead}
+use Rattle.std.specs.Prelude.{Ok, None, Option as Optional}
+use Rattle.utility_types.specs.Numbers.{OrRefusal}
+use Rattle.utility_types.specs.declared.SyntaxElement.{SyntaxElement}
 
 -- of `left` children those before the last k are tokens
 pub record Passed (s : Store) (c : Cursor) (d : Direction) (left k : ℕ) : Type 0 where
@@ -100,10 +101,10 @@ module _ {s : Store} {c : Cursor} {d : Direction} {tokens : Bool} {left k : ℕ}
   abbrev kids : List Element
   kids = children (at (entries s) (take c.depth l) c)
 
-  pub no_nearest : k ≡ 0 → Tells l l (maybe (nearest d (offered tokens (ahead d kids left)))) None
+  pub no_nearest : k ≡ 0 → Tells l l (maybe (nearest d (offered tokens (ahead d kids left)))) (Ok None)
   no_nearest e = none_told (g.nearest (take c.depth l) ∙ ap (λ v. nearest d (ahead d kids v)) e ∙ ap (nearest d) (none_ahead d kids) ∙ nearest_none d)
 
-  pub nearest_told : Inner s c → (k ≡ 0 → ⊥) → k ≤ child_count (entries s) c → {n i : ℕ} → n ≡ child_count (entries s) c → i ≡ nearest_index d n k → {l' : List ℕ} {r : Answer}
+  pub nearest_told : Inner s c → (k ≡ 0 → ⊥) → k ≤ child_count (entries s) c → {n i : ℕ} → n ≡ child_count (entries s) c → i ≡ nearest_index d n k → {l' : List ℕ} {r : OrRefusal (Optional SyntaxElement)}
       → Tells l l' (maybe (get_elem? kids i)) r → Tells l l' (maybe (nearest d (offered tokens (ahead d kids left)))) r
   nearest_told n z h en ei t =
       let q = children_count n (take c.depth l) in

@@ -20,15 +20,8 @@ use Rattle.utility_types.specs.declared.Refusal.{Refusal}
 use Rattle.utility_types.specs.declared.Refusal.TheVariants.{NoSuchElement}
 use Rattle.utility_types.specs.declared.Direction.TheVariants.{Next, Prev}
 use Rattle.cursor.specs.declared.position.Cursor.{Cursor}
-use Rattle.cursor.specs.declared.position.Answer.{Answer}
-use Rattle.cursor.specs.declared.position.Answer.TheVariants.{None}
-use Rattle.cursor.specs.declared.position.Answer.TheVariants as answer
 use Rattle.cursor.specs.declared.path.Remember.TheVariants.{Parent}
-use Rattle.cursor.specs.declared.path.Remembered.TheVariants.{Of, NoNode}
 use Rattle.cursor.specs.declared.path.Place.{Place}
-use Rattle.cursor.specs.declared.path.Located.{Located}
-use Rattle.cursor.specs.declared.path.Located.TheVariants.{At}
-use Rattle.cursor.specs.declared.path.Located.TheVariants as located
 use Rattle.cursor.specs.Position.{at, child_count}
 use Rattle.cursor.specs.Path.{Leads}
 use Rattle.cursor.specs.Answers.{Tells, answer_at_path}
@@ -36,11 +29,12 @@ use Rattle.cursor.proofs.Positions.{children_count}
 use Rattle.cursor.proofs.Telling.{told_as}
 use Rattle.cursor.proofs.Asking.{answer_none, answer_of_lem, refused_by_lem, refused_named, refused_4, located_named}
 use Rattle.cursor.proofs.AskingNodes.{of_node_node, of_node_token}
-use Rattle.cursor_node.specs.declared.siblings.ParentAndIndex.{ParentAndIndex}
-use Rattle.cursor_node.specs.declared.siblings.ParentAndIndex.TheVariants.{Child, Root, Refused}
 use Rattle.cursor_node.specs.Children.{ahead, nearest}
 use Rattle.cursor_node.specs.Siblings.{sibling_question, siblings_left, IsChild, IsParentAndIndex}
 use Rattle.cursor_node.proofs.ElementAsked.{root_orphan, parent_above, parent_is}
+use Rattle.std.specs.Prelude.{Ok, Err, Some, None, Option as Optional}
+use Rattle.utility_types.specs.Numbers.{OrRefusal}
+use Rattle.utility_types.specs.declared.SyntaxElement.{SyntaxElement}
 
 -- with tokens every element is offered, otherwise nodes only
 abbrev pub IsOffered : Bool → Tree → Type 0
@@ -75,14 +69,14 @@ sibling_ask Next t e tokens = refl
 sibling_ask Prev t e tokens = refl
 
 -- parent_and_index, by its tests
-module _ {s : Store} {r depth : ℕ} {l : List ℕ} {x : Located} (d : Leads s Parent r depth l x) (tokens : Bool) where
+module _ {s : Store} {r depth : ℕ} {l : List ℕ} {x : OrRefusal Place} (d : Leads s Parent r depth l x) (tokens : Bool) where
   abbrev es : List Entry
   es = entries s
 
-  pub refused_siblings : {why : Refusal} → x ≡ located.Refused why → IsParentAndIndex s r depth l tokens (Refused why)
+  pub refused_siblings : {why : Refusal} → x ≡ Err why → IsParentAndIndex s r depth l tokens (Err why)
   refused_siblings h = record { facts = (refused_4 d h, λ y. answer_none (refused_named d h) (sibling_question y tokens)) }
 
-  module _ {p : Place} (h : x ≡ At p) where
+  module _ {p : Place} (h : x ≡ Ok p) where
     abbrev it : Element
     it = at es (take depth l) p.at
 
@@ -90,15 +84,15 @@ module _ {s : Store} {r depth : ℕ} {l : List ℕ} {x : Located} (d : Leads s P
         ≡ of_sibling tokens it (maybe (bind (parent (tree_at es r) (take depth l)) (λ u. nearest y (offered tokens (beside y (children u) (index_of (take depth l)))))))
     siblings_asked y = answer_of_lem (located_named d h) (sibling_question y tokens) ∙ sibling_ask y (tree_at es r) it tokens
 
-    pub token_siblings : tokens ≡ false → is_node (tree_at es p.at.number) ≡ false → IsParentAndIndex s r depth l tokens (Refused NoSuchElement)
+    pub token_siblings : tokens ≡ false → is_node (tree_at es p.at.number) ≡ false → IsParentAndIndex s r depth l tokens (Err NoSuchElement)
     token_siblings f z = record { facts = (refl, λ y. siblings_asked y ∙ of_sibling_token tokens it f z _) }
 
     module _ (m : IsOffered tokens (tree_at es p.at.number)) where
-      pub root_siblings : p.remembered ≡ NoNode → IsParentAndIndex s r depth l tokens Root
+      pub root_siblings : p.remembered ≡ None → IsParentAndIndex s r depth l tokens (Ok None)
       unfolding maybe option bind
       root_siblings n = record { facts = λ y. siblings_asked y ∙ of_sibling_offered tokens it m _ ∙ rw (root_orphan d h n) refl }
 
-      pub child_siblings : {c : Cursor} → p.remembered ≡ Of c → {i : ℕ} → i ≡ get_or l c.depth 0 → IsParentAndIndex s r depth l tokens (Child c i)
+      pub child_siblings : {c : Cursor} → p.remembered ≡ Some c → {i : ℕ} → i ≡ get_or l c.depth 0 → IsParentAndIndex s r depth l tokens (Ok (Some (c, i)))
       unfolding bind
       child_siblings {c} n {i} e =
           let a = parent_above d h n in
@@ -113,19 +107,19 @@ module _ {s : Store} {r depth : ℕ} {l : List ℕ} {x : Located} (d : Leads s P
           }
 
 -- sibling_towards, by what parent_and_index says
-module _ {s : Store} {r depth : ℕ} {l : List ℕ} {tokens : Bool} {x : ParentAndIndex} (f : IsParentAndIndex s r depth l tokens x) (y : Direction) where
-  pub no_siblings : {why : Refusal} → x ≡ Refused why → Tells l l (answer_at_path (entries s) r depth l (sibling_question y tokens)) (answer.Refused why)
+module _ {s : Store} {r depth : ℕ} {l : List ℕ} {tokens : Bool} {x : OrRefusal (Optional (Cursor × ℕ))} (f : IsParentAndIndex s r depth l tokens x) (y : Direction) where
+  pub no_siblings : {why : Refusal} → x ≡ Err why → Tells l l (answer_at_path (entries s) r depth l (sibling_question y tokens)) (Err why)
   no_siblings e = let z = rw e at f.facts in refused_by_lem z.0 (z.1 y)
 
-  pub root_told : x ≡ Root → Tells l l (answer_at_path (entries s) r depth l (sibling_question y tokens)) None
+  pub root_told : x ≡ (Ok None) → Tells l l (answer_at_path (entries s) r depth l (sibling_question y tokens)) (Ok None)
   root_told e = record { says = sym ((rw e at f.facts) y); kept = refl }
 
-pub is_child : {s : Store} {r depth : ℕ} {l : List ℕ} {tokens : Bool} {x : ParentAndIndex} → IsParentAndIndex s r depth l tokens x → {c : Cursor} {i : ℕ} → x ≡ Child c i
+pub is_child : {s : Store} {r depth : ℕ} {l : List ℕ} {tokens : Bool} {x : OrRefusal (Optional (Cursor × ℕ))} → IsParentAndIndex s r depth l tokens x → {c : Cursor} {i : ℕ} → x ≡ Ok (Some (c, i))
     → IsChild s r depth l tokens c i
 is_child f e = rw e at f.facts
 
 pub sibling_told : {s : Store} {r depth : ℕ} {l : List ℕ} {tokens : Bool} {c : Cursor} {i : ℕ} → IsChild s r depth l tokens c i → (y : Direction) {n left : ℕ}
-    → n ≡ child_count (entries s) c → left ≡ siblings_left y n i → {l' : List ℕ} {a : Answer}
+    → n ≡ child_count (entries s) c → left ≡ siblings_left y n i → {l' : List ℕ} {a : OrRefusal (Optional SyntaxElement)}
     → Tells l l' (maybe (nearest y (offered tokens (ahead y (children (at (entries s) (take c.depth l) c)) left)))) a
     → Tells l l' (answer_at_path (entries s) r depth l (sibling_question y tokens)) a
 sibling_told {s} {l = l} {tokens} {c} {i} k y e el t =

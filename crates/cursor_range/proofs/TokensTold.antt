@@ -25,8 +25,6 @@ use Rattle.utility_types.specs.declared.Refusal.TheVariants.{OutOfRange}
 use Rattle.definitions.proofs.Laws.{false≢true}
 use Rattle.green.specs.Store.{Store, entries}
 use Rattle.cursor.specs.declared.position.Cursor.{Cursor}
-use Rattle.cursor.specs.declared.path.LocatedNode.{LocatedNode}
-use Rattle.cursor.specs.declared.path.LocatedNode.TheVariants as node
 use Rattle.cursor.specs.Position.{at, Placed, Reached}
 use Rattle.cursor.specs.Path.{LeadsToNode}
 use Rattle.cursor.specs.Answers.{answer_at_path}
@@ -34,9 +32,10 @@ use Rattle.cursor.proofs.Reaching.{path_joined}
 use Rattle.cursor.proofs.AskingNodes.{of_node_token, no_node_4, no_node_asked, node_facts, node_asked}
 use Rattle.cursor_range.specs.declared.tokens.Hits.{Hits}
 use Rattle.cursor_range.specs.declared.tokens.Hits.TheVariants.{Nothing, Single, Between}
-use Rattle.cursor_range.specs.declared.offset.Tokens.TheVariants.{At, Refused}
 use Rattle.cursor_range.specs.Offset.{InClosedRange, Finds, TokensFound}
 use Rattle.cursor_range.specs.Answers.{AllPlaced, Told, nothing, single, between, right_path, TellsTokens}
+use Rattle.std.specs.Prelude.{Ok, Err}
+use Rattle.utility_types.specs.Numbers.{OrRefusal}
 
 -- one more index is copied
 pub copy_more : (d s : List ℕ) (i : ℕ) {t : List ℕ} → t ≡ take i s ++ drop i d → i < length d → i < length s → set t i (get_or s i 0) ≡ take (i + 1) s ++ drop (i + 1) d
@@ -79,7 +78,7 @@ abbrev answers : List Element → Result query.Answer
 answers es = ok (query.Answer.elements (map shown es))
 
 found_told : {s : Store} {d : ℕ} {tokens : List ℕ → List Element} {l l' r r' r'' : List ℕ} {h : Hits} {t : TokenAtOffset} → d ≤ length l' → d ≤ length r'
-    → Finds s d tokens l l' r r' h → Told (entries s) h t → r'' ≡ right_path h d l' r' → TellsTokens l l' r r'' (answers (tokens (take d l))) (At t)
+    → Finds s d tokens l l' r r' h → Told (entries s) h t → r'' ≡ right_path h d l' r' → TellsTokens l l' r r'' (answers (tokens (take d l))) (Ok t)
 found_told {d = d} {l = l} m n g nothing h = record { says = ap answers (g.found (take d l)); kept = (g.written.0, h ∙ g.written.1) }
 found_told {s} {d} {l = l} {l'} m n g (single {a} u) h =
     let w = g.written.0 in
@@ -113,26 +112,26 @@ within from to x e = go (ltb x from) (ltb to x) refl refl e
     go true b p q e = absurd (false≢true (sym e))
 
 -- a lent path has room for the node's indexes
-pub depth_fits : {s : Store} {root depth : ℕ} {l : List ℕ} {y : LocatedNode} (d : LeadsToNode s root depth l y) {c : Cursor} → y ≡ node.At c → {n : ℕ} → n ≡ 64 → depth ≤ n
+pub depth_fits : {s : Store} {root depth : ℕ} {l : List ℕ} {y : OrRefusal Cursor} (d : LeadsToNode s root depth l y) {c : Cursor} → y ≡ Ok c → {n : ℕ} → n ≡ 64 → depth ≤ n
 depth_fits d h e = omega (arith, (node_facts d h).deep, (node_facts d h).inner.placed.deep)
 
-module _ {s : Store} {root depth : ℕ} {l : List ℕ} {y : LocatedNode} (d : LeadsToNode s root depth l y) (x : ℕ) where
+module _ {s : Store} {root depth : ℕ} {l : List ℕ} {y : OrRefusal Cursor} (d : LeadsToNode s root depth l y) (x : ℕ) where
   abbrev es : List Entry
   es = entries s
 
   -- a refusal leaves both paths as they were
-  pub no_node_told : {why : Refusal} → y ≡ node.Refused why → {r : List ℕ} → TellsTokens l l r r (answer_at_path es root depth l (Question.token_at_offset x)) (Refused why)
+  pub no_node_told : {why : Refusal} → y ≡ Err why → {r : List ℕ} → TellsTokens l l r r (answer_at_path es root depth l (Question.token_at_offset x)) (Err why)
   unfolding ask
   no_node_told h = rw (no_node_4 d h) (record { says = sym (no_node_asked d h (Question.token_at_offset x) (λ e n t. of_node_token e t _)); kept = (refl, refl) })
 
-  module _ {c : Cursor} (h : y ≡ node.At c) {n : ℕ} (e : n ≡ text_len (tree_at es c.number)) {b : Bool} (w : b ≡ is_outside c.start (c.start + n) x) where
+  module _ {c : Cursor} (h : y ≡ Ok c) {n : ℕ} (e : n ≡ text_len (tree_at es c.number)) {b : Bool} (w : b ≡ is_outside c.start (c.start + n) x) where
     by_range : answer_at_path es root depth l (Question.token_at_offset x) ≡ cond b (refused 5) (answers (token_at_offset x (at es (take depth l) c)))
     unfolding ask
     by_range =
         node_asked d h (Question.token_at_offset x) refl
         ∙ ap (λ t. cond t (refused 5) (answers (token_at_offset x (at es (take depth l) c)))) (sym (w ∙ ap (λ m. is_outside c.start (c.start + m) x) e))
 
-    pub outside_told : b ≡ true → {r : List ℕ} → TellsTokens l l r r (answer_at_path es root depth l (Question.token_at_offset x)) (Refused OutOfRange)
+    pub outside_told : b ≡ true → {r : List ℕ} → TellsTokens l l r r (answer_at_path es root depth l (Question.token_at_offset x)) (Err OutOfRange)
     outside_told t = record { says = sym (by_range ∙ rw t refl); kept = (refl, refl) }
 
     pub offset_held : b ≡ false → InClosedRange es (c) x
@@ -141,6 +140,6 @@ module _ {s : Store} {root depth : ℕ} {l : List ℕ} {y : LocatedNode} (d : Le
         record { low = z.0; high = omega (arith, z.1, e) }
 
     pub tokens_told_lem : b ≡ false → {l' r r' r'' : List ℕ} {f : Hits} {t : TokenAtOffset} → length l' ≡ 64 → length r' ≡ 64
-        → TokensFound s (c) x l l' r r' f → Told es f t → r'' ≡ right_path f depth l' r' → TellsTokens l l' r r'' (answer_at_path es root depth l (Question.token_at_offset x)) (At t)
+        → TokensFound s (c) x l l' r r' f → Told es f t → r'' ≡ right_path f depth l' r' → TellsTokens l l' r r'' (answer_at_path es root depth l (Question.token_at_offset x)) (Ok t)
     tokens_told_lem t m o f u v =
         rw (by_range, t) (found_told (depth_fits d h m) (depth_fits d h o) (rw (node_facts d h).deep at f) u v)

@@ -1,24 +1,16 @@
 // rowan's token_at_offset. The left or only token's path is lent as `left`, the right one's as `right`.
-// For the crates above: copy_indexes.
 
 ghost use Rattle.std.specs.Prelude.{◌≡◌, ◌++◌, ◌≤◌, length, take, drop};
 ghost use Rattle.definitions.specs.Refusal.{is_outside};
-ghost use Rattle.green.specs.Store.{here, entered, entries};
-ghost use Rattle.green.specs.Valid.{Valid};
+ghost use Rattle.green.specs.Store.{entries};
+ghost use Rattle.green.specs.View.{view};
 ghost use Rattle.cursor_range.specs.Answers.{AllPlaced, right_path, Told, AnswersTokens};
 
 use crate::tokens;
 use crate::tokens::Hits;
-use cursor::path::LocatedNode;
 use cursor::{path, position};
-use green::Counts;
+use green::Store;
 use utility_types::{Refusal, TokenAtOffset};
-
-#[derive(Clone, Copy)]
-pub enum Tokens {
-    At(TokenAtOffset),
-    Refused(Refusal),
-}
 
 fn is_outside(from: usize, to: usize, x: usize) -> bool
     ensures { result ≡ is_outside from to x }
@@ -29,41 +21,34 @@ fn is_outside(from: usize, to: usize, x: usize) -> bool
     to < x
 }
 
-// Copies the first `n` indexes.
-pub fn copy_indexes(from: &[u32], to: &mut [u32], n: usize)
+// Copies the first `n` indexes. It is `copy_from_slice` written out, which calls a function for the few that there are: a token at an offset took a third longer.
+fn copy_indexes(from: &[u32], to: &mut [u32], n: usize)
     requires { (n ≤ length from.now) × (n ≤ length to.old) }
     ensures { to.new ≡ take n from.now ++ drop n to.old }
 {
-    let mut i: usize = 0;
-    while i < n {
+    for i in 0..n {
         to[i] = from[i];
-        i += 1;
     }
 }
 
 // The tokens as answers name them. The right one of two gets the path, of `depth` indexes, that they have in common.
 fn tell(
-    records: &[u64],
-    children: &[u64],
-    text: &[u8],
-    used: &Counts,
+    store: Store<'_, '_>,
     found: Hits,
     depth: usize,
     left: &[u32],
     right: &mut [u32],
 ) -> TokenAtOffset
-    requires { AllPlaced (here records children text used) found × (depth ≤ length left.now) × (depth ≤ length right.old) }
-    ensures { Told (entries (entered records children text used)) found result × (right.new ≡ right_path found depth left.now right.old) }
+    requires { AllPlaced (view store) found × (depth ≤ length left.now) × (depth ≤ length right.old) }
+    ensures { Told (entries (view store.entry)) found result × (right.new ≡ right_path found depth left.now right.old) }
 {
     match found {
         Hits::Nothing => TokenAtOffset::None,
-        Hits::Single(a) => TokenAtOffset::Single(position::syntax_element(
-            records, children, text, used, a,
-        )),
+        Hits::Single(a) => TokenAtOffset::Single(position::syntax_element(store, a)),
         Hits::Between(a, b) => {
             copy_indexes(left, right, depth);
-            let before = position::syntax_element(records, children, text, used, a);
-            let after = position::syntax_element(records, children, text, used, b);
+            let before = position::syntax_element(store, a);
+            let after = position::syntax_element(store, b);
             TokenAtOffset::Between(before, after)
         }
     }
@@ -71,28 +56,20 @@ fn tell(
 
 // The tokens that have an offset inside or at an end, empty ones left out, in the node that the first `depth` indexes of `left` name.
 pub fn token_at_offset(
-    records: &[u64],
-    children: &[u64],
-    text: &[u8],
-    used: &Counts,
+    store: Store<'_, '_>,
     root: usize,
     left: &mut [u32; 64],
     right: &mut [u32; 64],
     depth: usize,
     offset: usize,
-) -> Tokens
-    requires { Valid (here records children text used) }
-    ensures { AnswersTokens (entered records children text used) root depth left right offset result }
+) -> Result<TokenAtOffset, Refusal>
+    ensures { AnswersTokens (view store.entry) root depth left right offset result }
 {
-    let found = path::locate_node(records, children, text, used, root, left, depth);
-    let at = match found {
-        LocatedNode::Refused(why) => return Tokens::Refused(why),
-        LocatedNode::At(at) => at,
-    };
-    let len = position::text_len(records, children, text, used, at);
+    let at = path::locate_node(store, root, left, depth)?;
+    let len = position::text_len(store, at);
     if is_outside(at.start, at.start + len, offset) {
-        return Tokens::Refused(Refusal::OutOfRange);
+        return Err(Refusal::OutOfRange);
     }
-    let found = tokens::node_tokens(records, children, text, used, at, offset, left, right);
-    Tokens::At(tell(records, children, text, used, found, depth, left, right))
+    let found = tokens::node_tokens(store, at, offset, left, right);
+    Ok(tell(store, found, depth, left, right))
 }

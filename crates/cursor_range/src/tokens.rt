@@ -1,14 +1,15 @@
 // For this crate only: the tokens at an offset, below a node that holds it.
 
 ghost use Rattle.std.specs.Prelude.{◌≡◌, ◌≤◌, ◌<◌, length};
-ghost use Rattle.green.specs.Store.{here, entered, entries};
+ghost use Rattle.green.specs.Store.{entries};
+ghost use Rattle.green.specs.View.{view};
 ghost use Rattle.cursor.specs.Position.{Inner};
 ghost use Rattle.cursor_range.specs.Offset.{InClosedRange, ChildInRange, Touched, TokensFound, ChildTokensFound, left_put, right_put, both_of};
 
 use crate::search;
 use cursor::position;
 use cursor::position::Cursor;
-use green::Counts;
+use green::Store;
 use utility_types::NodeOrToken;
 
 // The children of a node that are not empty and whose closed range holds an offset, by their indexes.
@@ -29,23 +30,16 @@ pub enum Hits {
 
 // The last child that starts before the offset reaches it, as the next one starts no earlier than it.
 // Of the children that start at the offset, all but the last are empty.
-fn touching_children(
-    records: &[u64],
-    children: &[u64],
-    text: &[u8],
-    used: &Counts,
-    at: Cursor,
-    x: usize,
-) -> Touching
-    requires inner { Inner (here records children text used) at }
-    requires in_closed_range { InClosedRange (entries (here records children text used)) at x }
-    ensures { Touched (entries (entered records children text used)) at x result }
+fn touching_children(store: Store<'_, '_>, at: Cursor, x: usize) -> Touching
+    requires inner { Inner (view store) at }
+    requires in_closed_range { InClosedRange (entries (view store)) at x }
+    ensures { Touched (entries (view store.entry)) at x result }
 {
-    let before = search::partition_point(records, children, text, used, at, x);
-    let through = search::partition_point(records, children, text, used, at, x + 1);
+    let before = search::partition_point(store, at, x);
+    let through = search::partition_point(store, at, x + 1);
     if before < through {
-        let last = position::child(records, children, text, used, at, through - 1);
-        if 0 < position::text_len(records, children, text, used, last) {
+        let last = position::child(store, at, through - 1);
+        if 0 < position::text_len(store, last) {
             if 0 < before {
                 return Touching::Children(before - 1, through - 1);
             }
@@ -94,26 +88,23 @@ fn both(before: Hits, after: Hits) -> Hits
 // The right one of two children leaves its indexes in `right`.
 #[cycle(element_tokens_node_tokens)]
 pub fn node_tokens(
-    records: &[u64],
-    children: &[u64],
-    text: &[u8],
-    used: &Counts,
+    store: Store<'_, '_>,
     at: Cursor,
     x: usize,
     left: &mut [u32],
     right: &mut [u32],
 ) -> Hits
-    requires inner { Inner (here records children text used) at × InClosedRange (entries (here records children text used)) at x }
+    requires inner { Inner (view store) at × InClosedRange (entries (view store)) at x }
     requires in_bounds { (64 ≤ length left.old) × (64 ≤ length right.old) }
-    ensures { TokensFound (entered records children text used) at x left.old left.new right.old right.new result }
+    ensures { TokensFound (view store.entry) at x left.old left.new right.old right.new result }
 {
-    let touching = touching_children(records, children, text, used, at, x);
+    let touching = touching_children(store, at, x);
     match touching {
         Touching::NoChild => Hits::Nothing,
-        Touching::Child(k) => element_tokens(records, children, text, used, at, k, x, left, right),
+        Touching::Child(k) => element_tokens(store, at, k, x, left, right),
         Touching::Children(k, m) => {
-            let before = element_tokens(records, children, text, used, at, k, x, left, right);
-            let after = element_tokens(records, children, text, used, at, m, x, right, left);
+            let before = element_tokens(store, at, k, x, left, right);
+            let after = element_tokens(store, at, m, x, right, left);
             both(before, after)
         }
     }
@@ -123,27 +114,24 @@ pub fn node_tokens(
 // Its index is written once the tokens below it are found.
 #[cycle(element_tokens_node_tokens)]
 fn element_tokens(
-    records: &[u64],
-    children: &[u64],
-    text: &[u8],
-    used: &Counts,
+    store: Store<'_, '_>,
     parent: Cursor,
     k: usize,
     x: usize,
     left: &mut [u32],
     right: &mut [u32],
 ) -> Hits
-    requires inner { Inner (here records children text used) parent × ChildInRange (entries (here records children text used)) parent x k }
+    requires inner { Inner (view store) parent × ChildInRange (entries (view store)) parent x k }
     requires in_bounds { (64 ≤ length left.old) × (64 ≤ length right.old) }
-    ensures { ChildTokensFound (entered records children text used) parent k x left.old left.new right.old right.new result }
+    ensures { ChildTokensFound (view store.entry) parent k x left.old left.new right.old right.new result }
 {
     let depth = parent.depth;
-    let at = position::child(records, children, text, used, parent, k);
-    let NodeOrToken::Node(_) = position::node_or_token(records, children, text, used, at) else {
+    let at = position::child(store, parent, k);
+    let NodeOrToken::Node(_) = position::node_or_token(store, at) else {
         left[depth] = k as u32;
         return Hits::Single(at);
     };
-    let found = node_tokens(records, children, text, used, at, x, left, right);
+    let found = node_tokens(store, at, x, left, right);
     put_index(found, depth, k as u32, left, right);
     found
 }

@@ -2,13 +2,14 @@
 use Prim.Native.Nat.{ℕ, suc, ◌+◌, ◌≤◌, ◌<◌}
 use native.Mathlib.Omega.{arith}
 use native.Mathlib.Numerals.{add-one}
-use mathlib.Core.Path.{◌≡◌, refl, ap, sym, ◌∙◌}
+use mathlib.Core.Path.{◌≡◌, refl, ap, sym}
 use mathlib.Core.List.{List, [], ◌∷◌, ◌++◌}
 use mathlib.Core.Bool.{Bool, true, false, ◌&&◌}
-use lib.ListN.{length, get_or, drop, drop_of_length-le, take}
-use lib.Seq.{drop-cons, take-suc, get_or-take}
+use lib.ListN.{length, get_or, drop, drop_of_length-le}
+use lib.Seq.{drop-cons}
 use lib.Dec.{eqb}
 use borrow.Author.Tests.{eq-eqb, ne_eqb}
+use Rattle.std.specs.Cmp.Lexicographic.{pointwise}
 use Rattle.definitions.specs.Tree.{same_numbers}
 use Rattle.definitions.proofs.Laws.{same_numbers_eq, same_numbers_refl}
 
@@ -21,6 +22,14 @@ unequal xs ys h = is_false _ (λ p. h (same_numbers_eq xs ys p))
 
 pub unequal_lengths : (xs ys : List ℕ) → (length xs ≡ length ys → ⊥) → false ≡ same_numbers xs ys
 unequal_lengths xs ys h = unequal xs ys (λ p. h (ap length p))
+
+-- as `==` of slices compares them
+pub same_pointwise : (xs ys : List ℕ) → pointwise eqb xs ys ≡ same_numbers xs ys
+unfolding same_numbers
+same_pointwise [] [] = refl
+same_pointwise [] (y ∷ ys) = refl
+same_pointwise (x ∷ xs) [] = refl
+same_pointwise (x ∷ xs) (y ∷ ys) = ap (λ r. eqb x y && r) (same_pointwise xs ys)
 
 -- no two of the first i numbers differ
 pub record Compared (xs ys : List ℕ) (i : ℕ) : Type 0 where
@@ -46,18 +55,9 @@ module _ {xs ys : List ℕ} {i : ℕ} (f : Compared xs ys i) where
   unfolding same_numbers
   compared_end l = let m : length ys ≤ i = omega (arith, f.lengths) in rw (drop_of_length-le xs l, drop_of_length-le ys m) at f.rest
 
--- lists that are equal as far as they were compared
-pub same_more : (a b : List ℕ) (n i : ℕ) → i < n → n ≤ length a → n ≤ length b → take i a ≡ take i b → get_or a i 0 ≡ get_or b i 0 → take (i + 1) a ≡ take (i + 1) b
-same_more a b n i h u v e f = rw (add-one, take-suc a i 0 (omega arith), take-suc b i 0 (omega arith), e, f) refl
-
+-- lists that are equal, and lists of two parts
 pub same_so_far : (a b : List ℕ) → a ≡ b → true ≡ same_numbers a b
 same_so_far a b e = rw e (sym (same_numbers_refl b))
-
-pub same_whole : (a b : List ℕ) (n i : ℕ) → i ≤ n → n ≤ i → take i a ≡ take i b → true ≡ same_numbers (take n a) (take n b)
-same_whole a b n i h g e = let z : n ≡ i = omega arith in rw z (same_so_far (take i a) (take i b) e)
-
-pub differ_at : (a b : List ℕ) (n i : ℕ) → i < n → (get_or a i 0 ≡ get_or b i 0 → ⊥) → false ≡ same_numbers (take n a) (take n b)
-differ_at a b n i h d = unequal (take n a) (take n b) (λ e. d (sym (get_or-take n a i 0 h) ∙ ap (λ l. get_or l i 0) e ∙ get_or-take n b i 0 h))
 
 pub same_append : (a b c d : List ℕ) → length a ≡ length c → same_numbers (a ++ b) (c ++ d) ≡ (same_numbers a c && same_numbers b d)
 unfolding same_numbers

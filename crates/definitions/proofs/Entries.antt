@@ -1,18 +1,18 @@
 -- Entries: how many places they take, what numbers among them name, and one entry more. Assumes nothing.
-use Prim.Native.Nat.{ℕ, suc, ◌+◌, ◌≤◌, ◌<◌, min}
+use Prim.Native.Nat.{ℕ, suc, ◌+◌, ◌<◌, min}
 use native.Mathlib.Omega.{arith}
-use native.Mathlib.Numerals.{add-one}
-use mathlib.Core.Path.{◌≡◌, refl, sym, ap, ◌∙◌}
+use mathlib.Core.Path.{◌≡◌, refl, ap, ◌∙◌}
 use mathlib.Core.List.{List, [], ◌∷◌, ◌++◌}
-use mathlib.Core.Bool.{true, false, not, ◌||◌}
-use lib.ListN.{length, get_or, drop, length-append, drop_of_length-le}
-use lib.Seq.{drop-cons}
+use mathlib.Core.Bool.{Bool, true, false, not, ◌||◌, ◌&&◌}
+use lib.Dec.{ltb}
+use lib.ListN.{length, length-append}
+use Rattle.std.specs.List.{list_all}
 use borrow.Author.Tests.{ltb-true, le-ltb, not-false}
 use Rattle.definitions.specs.Prelude.{any}
 use Rattle.definitions.specs.Tree.{count}
 use Rattle.definitions.specs.Entry.{Entry, trees_at, child_places, text_bytes, own_bytes, Lent}
 use Rattle.definitions.specs.Refusal.{is_absent, exceeds_room, is_overfull}
-use Rattle.definitions.proofs.Limits.{present, Room, entries_room, false_or, absent as is-absent}
+use Rattle.definitions.proofs.Limits.{Room, entries_room, false_or}
 
 -- a tree for each number
 pub trees_at_count : (es : List Entry) (ns : List ℕ) → count (trees_at es ns) ≡ length ns
@@ -63,29 +63,15 @@ room_front l xs ys e =
       text_most = omega (arith, r.text_most);
     })
 
--- every number before i names an element: what is left gives the answer
-pub record PresentSoFar (es : List Entry) (ns : List ℕ) (i : ℕ) : Type 0 where
-  pub at : i ≤ length ns
-  pub rest : any (is_absent es) (drop i ns) ≡ any (is_absent es) ns
-
-pub present_start : (es : List Entry) (ns : List ℕ) → PresentSoFar es ns 0
-present_start es ns = record { at = omega arith; rest = refl }
-
-module _ {es : List Entry} {ns : List ℕ} {i : ℕ} (f : PresentSoFar es ns i) where
-  module _ (l : i < length ns) {n : ℕ} (e : n ≡ get_or ns i 0) where
-    step : (is_absent es n || any (is_absent es) (drop (i + 1) ns)) ≡ any (is_absent es) ns
-    unfolding any
-    step = rw (e, add-one) (sym (ap (any (is_absent es)) (drop-cons ns i 0 l)) ∙ f.rest)
-
-    pub absent_here : length es ≤ n → false ≡ not (any (is_absent es) ns)
-    absent_here h = ap not (rw (is-absent es n h) at step)
-
-    pub present_next : n < length es → PresentSoFar es ns (i + 1)
-    present_next h = record { at = omega arith; rest = rw (present es n h) at step }
-
-  pub present_all : length ns ≤ i → true ≡ not (any (is_absent es) ns)
-  unfolding any
-  present_all h = ap not (rw (drop_of_length-le ns h) at f.rest)
+-- every number names an element
+pub each_present : (es : List Entry) (ns : List ℕ) → list_all (λ n. ltb n (length es)) ns ≡ not (any (is_absent es) ns)
+unfolding any is_absent
+each_present es [] = refl
+each_present es (n ∷ ns) = go (ltb n (length es)) _ _ (each_present es ns)
+  where
+    go : (b c d : Bool) → c ≡ not d → (b && c) ≡ not (not b || d)
+    go true c d e = e
+    go false c d e = refl
 
 -- a number that names an element
 pub named_there : (es : List Entry) (n : ℕ) → is_absent es n ≡ false → n < length es

@@ -20,9 +20,6 @@ pub record Taken (ws : List ℕ) (h₀ h i : ℕ) : Type 0 where
   pub rest : add_words h (drop i ws) ≡ add_words h₀ ws
 
 module _ {ws : List ℕ} where
-  pub taken_none : {h : ℕ} → Taken ws h h 0
-  taken_none = record { within = omega arith; rest = refl }
-
   pub taken_more : {h₀ h i : ℕ} → Taken ws h₀ h i → i < length ws → {h' : ℕ} → h' ≡ add_word h (get_or ws i 0) → Taken ws h₀ h' (i + 1)
   unfolding add_words
   taken_more {i = i} t l e = record { within = omega arith; rest = rw (e, add-one) (rw (drop-cons ws i 0 l) at t.rest) }

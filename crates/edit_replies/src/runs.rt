@@ -5,17 +5,17 @@ ghost use Rattle.green.specs.Valid.{Valid};
 ghost use Rattle.sheet_run.specs.RunDone.{RunDone};
 
 use builder::state::EventAnswer;
-use files::out::Buffer;
-use green::Counts;
-use replies::show;
+use files::out::Output;
+use green::{Counts, Store};
+use replies::show::Shown;
 use script::call::Call;
-use script::{bytes, words};
+use script::fault::Fault;
 use sheet::{Ended, format};
 use utility_types::{Refusal, number};
 
 // Any sheet and text: as the run, with a line for each accepted event.
 fn run_each(
-    out: &mut Buffer,
+    out: &mut Output,
     records: &mut [u64],
     children: &mut [u64],
     text: &mut [u8],
@@ -27,7 +27,7 @@ fn run_each(
     ensures { RunDone (stores records children text used) sheet.now source.now result }
 {
     if format::is_malformed(sheet, source) {
-        return Ended::Refused(Refusal::Malformed, 0);
+        return Err((Refusal::Malformed, 0));
     }
     let mut parents = [0u32; 128];
     let mut waiting = [0u32; 4096];
@@ -35,8 +35,7 @@ fn run_each(
     let mut counts = [0usize; 2];
     let n = number::u32_at(sheet, 0) as usize;
     let mut at: usize = 0;
-    let mut i: usize = 0;
-    while i < n {
+    for i in 0..n {
         let done = sheet_run::step(
             records,
             children,
@@ -53,17 +52,19 @@ fn run_each(
         );
         let answer = done.answer;
         if let EventAnswer::Refused(why) = answer {
-            return Ended::Refused(why, i);
+            return Err((why, i));
         }
-        show::put_event(out, answer, used);
+        out.put_line(format_args!("{} {}", Shown(answer), Shown(&*used)));
         at += done.taken as usize;
-        i += 1;
     }
-    sheet_run::end_run(
+    let store = Store {
         records,
         children,
         text,
         used,
+    };
+    sheet_run::end_run(
+        store,
         &parents,
         &waiting,
         &registers,
@@ -73,63 +74,68 @@ fn run_each(
     )
 }
 
-fn put_run(
-    out: &mut Buffer,
-    records: &mut [u64],
-    children: &mut [u64],
-    text: &mut [u8],
-    used: &mut Counts,
-    sheet: &[u8],
-    source: &[u8],
-    op: u32,
-)
-    requires { Valid (store records.old children.old text.old used.old) }
-    ensures { Valid (store records.new children.new text.new used.new) }
-{
-    if op == 2 {
-        let mut yields = [0u32; 4096];
-        let ended = sheet_run::run_alone(records, children, text, used, &mut yields, sheet, source);
-        show::put_ended(out, ended, used);
-        return;
-    }
-    let ended = run_each(out, records, children, text, used, sheet, source);
-    show::put_ended(out, ended, used);
+// How a run ended, and the counts in use after it.
+fn put_ended(out: &mut Output, ended: Ended, used: &Counts) {
+    out.put_line(format_args!("{} store {}", Shown(ended), Shown(used)));
 }
 
-// The call's words are a sheet and a text. Whether the script goes on.
-pub fn answer(
-    call: Call,
-    out: &mut Buffer,
+// What a run reads. The longest sheet and text of a script are somewhat longer than any that runs.
+#[derive(Clone, Copy)]
+struct Source<'a> {
+    sheet: &'a [u8],
+    text: &'a [u8],
+}
+
+impl<'a> Source<'a> {
+    fn read(call: &mut Call<'a>) -> Result<Source<'a>, Fault> {
+        let sheet = call.bytes(33000)?;
+        let text = call.bytes(65537)?;
+        call.exactly(0)?;
+        Ok(Source { sheet, text })
+    }
+}
+
+// Call 2.
+pub fn run(
+    call: &mut Call,
+    out: &mut Output,
     records: &mut [u64],
     children: &mut [u64],
     text: &mut [u8],
     used: &mut Counts,
-) -> bool
+) -> Result<(), Fault>
     requires { Valid (store records.old children.old text.old used.old) }
     ensures { Valid (store records.new children.new text.new used.new) }
 {
-    // the longest of a script, in whole words
-    let mut sheet = [0u8; 33000];
-    let mut source = [0u8; 65540];
-    let first = bytes::read_bytes(call, &mut sheet, 33000, call.m);
-    if !first.ok {
-        return false;
-    }
-    let second = bytes::read_bytes(call, &mut source, 65537, first.left);
-    if !second.ok || !words::has_words(call, second.left, 0) {
-        return false;
-    }
-    let n = first.count;
-    let t = second.count;
-    put_run(
-        out,
+    let of = Source::read(call)?;
+    let mut yields = [0u32; 4096];
+    let ended = sheet_run::run_alone(
         records,
         children,
         text,
         used,
-        &sheet[..n],
-        &source[..t],
-        call.op,
+        &mut yields,
+        of.sheet,
+        of.text,
     );
-    true
+    put_ended(out, ended, used);
+    Ok(())
+}
+
+// Call 3.
+pub fn run_events(
+    call: &mut Call,
+    out: &mut Output,
+    records: &mut [u64],
+    children: &mut [u64],
+    text: &mut [u8],
+    used: &mut Counts,
+) -> Result<(), Fault>
+    requires { Valid (store records.old children.old text.old used.old) }
+    ensures { Valid (store records.new children.new text.new used.new) }
+{
+    let of = Source::read(call)?;
+    let ended = run_each(out, records, children, text, used, of.sheet, of.text);
+    put_ended(out, ended, used);
+    Ok(())
 }

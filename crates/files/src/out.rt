@@ -1,77 +1,76 @@
-// Standard output through one lent buffer, so that a listing costs a write for each buffer and not one for each word.
+// Standard output through std's buffer, so that a listing costs a write for each buffer and not one for each word.
 
-ghost use Rattle.std.specs.Prelude.{◌≡◌, ◌≤◌};
+ghost use Rattle.std.specs.Prelude.{◌≡◌, [], None, IfSome, OnOk, OnErr};
+ghost use Rattle.files.specs.Waiting.{waiting};
 
-use crate::tell_error;
-use std::fmt;
-use std::fmt::Write;
-use std::io::{Print, Stderr, Stdout};
+use crate::tell;
+use std::fmt::Display;
+use std::io;
+use std::io::{BufWriter, Print, Stderr, Stdout, Write};
 
-// How many bytes can wait.
-const ROOM: usize = 8192;
-
-// The first `count` of its bytes wait to be written. Once a write has failed, which was told on standard error, nothing waits,
-// and whatever comes later is dropped.
+// Where there is no memory for the buffer, each text is written as it comes, so that nothing is lost.
 #[derive(Drop)]
-pub struct Buffer {
-    to: Stdout,
-    complaints: Stderr,
-    waiting: [u8; 8192],
-    count: usize,
-    has_failed: bool,
-    ghost has_room: { count ≤ 8192 },
+enum Writer {
+    Buffered(BufWriter<Stdout>),
+    Bare(Stdout),
 }
 
-impl Buffer {
-    pub fn new(rt: HostRuntime) -> Buffer {
-        Buffer {
-            to: rt.stdout(),
+// Once a write has failed, which was told on standard error, there is no writer, and whatever comes later is dropped. The program
+// goes on, so that it still says what else is wrong.
+#[derive(Drop)]
+pub struct Output {
+    writer: Option<Writer>,
+    complaints: Stderr,
+}
+
+impl Output {
+    pub fn new(rt: HostRuntime) -> Output {
+        let writer = match BufWriter::new(rt.alloc(), rt.stdout()) {
+            Ok(writer) => Writer::Buffered(writer),
+            Err(_) => Writer::Bare(rt.stdout()),
+        };
+        Output {
+            writer: Some(writer),
             complaints: rt.stderr(),
-            waiting: [0; 8192],
-            count: 0,
-            has_failed: false,
         }
     }
-}
 
-// Writes what waits.
-pub fn flush(out: &mut Buffer)
-    ensures { out.new.count ≡ 0 }
-{
-    let written = out.to.write_all(&out.waiting[..out.count]);
-    out.count = 0;
-    if let Err(error) = written {
-        tell_error(out.complaints, b"standard output", error);
-        out.has_failed = true;
+    // What comes after a write that failed is dropped, and its caller goes on: what is wrong with a script has still to be told.
+    pub fn put(&mut self, text: impl Display + Drop) {
+        let written = match &mut self.writer {
+            Some(Writer::Buffered(writer)) => write!(writer, "{text}"),
+            Some(Writer::Bare(writer)) => write!(writer, "{text}"),
+            None => Ok(()),
+        };
+        self.check(written);
     }
-}
 
-fn put_byte(out: &mut Buffer, byte: u8) {
-    if out.count == ROOM {
-        flush(out);
+    pub fn put_line(&mut self, text: impl Display + Drop) {
+        self.put(format_args!("{text}\n"));
     }
-    if !out.has_failed {
-        out.waiting[out.count] = byte;
-        out.count += 1;
-    }
-}
 
-pub fn put(out: &mut Buffer, bytes: &[u8]) {
-    for byte in bytes {
-        put_byte(out, *byte);
+    // Writes what waits.
+    pub fn flush(&mut self)
+        ensures { IfSome self.new.writer (λ writer. waiting writer ≡ []) }
+    {
+        let written = match &mut self.writer {
+            Some(Writer::Buffered(writer)) => writer.flush(),
+            Some(Writer::Bare(writer)) => writer.flush(),
+            None => Ok(()),
+        };
+        self.check(written);
     }
-}
 
-// A number's digits are text.
-impl fmt::Write for Buffer {
-    fn write_str(&mut self, text: &str) -> fmt::Result {
-        put(self, text.as_bytes());
-        Ok(())
+    // Tells of a write that failed. What then waits is dropped, too: the writer itself would try it once more.
+    fn check(&mut self, written: io::Result<()>)
+        ensures ok { OnOk written (self.new.writer ≡ self.old.writer) }
+        ensures err { OnErr written (self.new.writer ≡ None) }
+    {
+        if let Err(error) = written {
+            tell(self.complaints, b"standard output", error);
+            if let Some(Writer::Buffered(writer)) = self.writer.take() {
+                let _ = writer.into_parts();
+            }
+        }
     }
-}
-
-// Some bytes and a number.
-pub fn put_number(out: &mut Buffer, before: &[u8], number: u64) {
-    put(out, before);
-    let _ = write!(out, "{number}");
 }

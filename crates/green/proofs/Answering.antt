@@ -15,7 +15,7 @@ use Rattle.definitions.specs.Entry.{absent as absentEntry, entry_at, tree_at, ch
 use Rattle.definitions.specs.Refusal.{is_absent, is_no_node, is_range_outside}
 use Rattle.definitions.proofs.Limits.{absent, present}
 use Rattle.definitions.proofs.Entries.{trees_at_count, text_bytes_append}
-use Rattle.definitions.proofs.Results.{ok≢refused}
+use Rattle.definitions.proofs.Results.{ok≢refused, refused_injective}
 use Rattle.definitions.proofs.Laws.{false≢true}
 use Rattle.utility_types.specs.Numbers.{refusal_number}
 use Rattle.utility_types.specs.declared.Refusal.{Refusal}
@@ -25,12 +25,12 @@ use Rattle.green.specs.Layout.{own_count, first_of, own_text}
 use Rattle.green.specs.Store.{Store, entries}
 use Rattle.green.specs.Valid.{AllBelow, Valid, Known}
 use Rattle.green.specs.Answers.{Named, looked_up, element_of, fields_of, Place, place_of, child_of}
-use Rattle.green.specs.declared.element.Lookup.{Lookup}
-use Rattle.green.specs.declared.element.Lookup.TheVariants.{Element, Refused}
 use Rattle.green.proofs.Lists.{slice_at, part_slice}
 use Rattle.green.proofs.Written.{child_words_at}
 use Rattle.green.proofs.Reading.{own_first_node, own_first_token, children_at, text_at_lem}
 use Rattle.green.proofs.Known.{count_records, number_bound, children_bound, text_bound}
+use Rattle.std.specs.Prelude.{Ok, Err}
+use Rattle.utility_types.specs.Numbers.{OrRefusal}
 
 -- element
 pub no_element : (s : Store) → Valid s → (n : ℕ) → get_or s.used 0 0 ≤ n → refused 4 ≡ element_of (entries s) n
@@ -100,6 +100,13 @@ module _ (s : Store) (n : ℕ) where
   unfolding is_no_node is_absent
   refused_no_node r e = rw (not_found (ltb n (length (entries s))) (is_node (tree_at (entries s) n)) n r (sym e))
 
+  refused_by_4 : (r : ℕ) → refused r ≡ element_of (entries s) n → r ≡ 4
+  refused_by_4 r e = go (is_absent (entries s) n) _ e
+    where
+      go : (b : Bool) (x : Named) → refused r ≡ cond b (refused 4) (ok x) → r ≡ 4
+      go true x e = refused_injective e
+      go false x e = absurd (ok≢refused (sym e))
+
   pub token_no_node : (m : ℕ) → ok (record { number = m; is_node = false }) ≡ element_of (entries s) n → is_no_node (entries s) n ≡ true
   unfolding is_no_node is_absent
   token_no_node m e =
@@ -165,20 +172,22 @@ module _ (s : Store) (n : ℕ) (h : Known s n) (d : is_node (tree_at (entries s)
       ∙ text_at_lem s (entries s) h.valid n h.within ∙ token_text_lem (tree_at (entries s) n) d)
 
 -- child_at, by what `element` answered
-module _ {s : Store} (v : Valid s) (n : ℕ) {l : Lookup} (told : looked_up l ≡ element_of (entries s) n) where
-  pub no_child : (k : ℕ) {r : Refusal} → l ≡ Refused r → refused 4 ≡ child_of (entries s) n k
-  no_child k {r} e = rw (refused_no_node s n (refusal_number r) (sym (ap looked_up e) ∙ told))
+module _ {s : Store} (v : Valid s) (n : ℕ) {l : OrRefusal NodeOrToken} (told : looked_up l ≡ element_of (entries s) n) where
+  pub no_child : (k : ℕ) {r : Refusal} → l ≡ Err r → refused (refusal_number r) ≡ child_of (entries s) n k
+  no_child k {r} e =
+      let f = sym (ap looked_up e) ∙ told in
+      rw (refused_by_4 s n (refusal_number r) f, refused_no_node s n (refusal_number r) f) refl
 
-  module _ {x : NodeOrToken} {m : ℕ} (e : l ≡ Element x) where
+  module _ {x : NodeOrToken} {m : ℕ} (e : l ≡ Ok x) where
     pub token_no_child : (k : ℕ) → x ≡ Token m → refused 4 ≡ child_of (entries s) n k
-    token_no_child k t = rw (token_no_node s n m (sym (ap looked_up (e ∙ ap Element t)) ∙ told))
+    token_no_child k t = rw (token_no_node s n m (sym (ap looked_up (e ∙ ap Ok t)) ∙ told))
 
     module _ (t : x ≡ Node m) where
       same_number : m ≡ n
-      same_number = (is_a_node s n v m (sym (ap looked_up (e ∙ ap Element t)) ∙ told)).0
+      same_number = (is_a_node s n v m (sym (ap looked_up (e ∙ ap Ok t)) ∙ told)).0
 
       pub node_known : Known s m × (is_node (tree_at (entries s) m) ≡ true)
-      node_known = let a = is_a_node s n v m (sym (ap looked_up (e ∙ ap Element t)) ∙ told) in rw same_number (a.1, a.2)
+      node_known = let a = is_a_node s n v m (sym (ap looked_up (e ∙ ap Ok t)) ∙ told) in rw same_number (a.1, a.2)
 
       module _ (k : ℕ) {c : ℕ} (many : c ≡ own_count (entry_at (entries s) m)) where
         pub child_past : c ≤ k → refused 5 ≡ child_of (entries s) n k

@@ -5,26 +5,18 @@ use Rattle.definitions.specs.Tree.{Tree, kind, is_node, children_of, count, text
 use Rattle.definitions.specs.Hash.{hash}
 use Rattle.definitions.specs.Entry.{Entry, entry_at, tree_at}
 use Rattle.definitions.specs.Refusal.{is_absent, is_no_node, is_range_outside}
-use Rattle.utility_types.specs.Numbers.{refusal_number, number_of, is_node_of}
-use Rattle.green.specs.declared.element.Lookup.{Lookup}
-use Rattle.green.specs.declared.element.Lookup.TheVariants.{Element, Refused}
+use Rattle.utility_types.specs.Numbers.{OrRefusal, told, number_of, is_node_of}
 use Rattle.green.specs.declared.element.Summary.{Summary}
-use Rattle.green.specs.declared.element.Summarized.{Summarized}
-use Rattle.green.specs.declared.element.Summarized.TheVariants.{Of}
-use Rattle.green.specs.declared.element.Summarized.TheVariants as summary
-use Rattle.green.specs.declared.node.ChildAt.{ChildAt}
-use Rattle.green.specs.declared.node.ChildAt.TheVariants.{Found}
-use Rattle.green.specs.declared.node.ChildAt.TheVariants as child
 use Rattle.green.specs.declared.node.Child.{Child}
+use Rattle.utility_types.specs.declared.NodeOrToken.{NodeOrToken}
 
 -- an element as a number names it
 pub record Named : Type 0 where
   pub number : ℕ
   pub is_node : Bool
 
-abbrev pub looked_up : Lookup → Result Named
-looked_up (Element x) = ok (record { number = number_of x; is_node = is_node_of x })
-looked_up (Refused r) = refused (refusal_number r)
+abbrev pub looked_up : OrRefusal NodeOrToken → Result Named
+looked_up x = told (λ (y : NodeOrToken). record { number = number_of y; is_node = is_node_of y }) x
 
 abbrev pub element_of : List Entry → ℕ → Result Named
 element_of es n = cond (is_absent es n) (refused 4) (ok (record { number = n; is_node = is_node (tree_at es n) }))
@@ -45,9 +37,8 @@ record_fields t = record { is_node = is_node t; kind = kind t; len = text_len t;
 abbrev pub summary_of : Summary → RecordFields
 summary_of x = record { is_node = x.is_node; kind = x.kind.0; len = x.len; size = x.size; height = x.height; hash = x.hash; children = x.children }
 
-abbrev pub summarized : Summarized → Result RecordFields
-summarized (Of x) = ok (summary_of x)
-summarized (summary.Refused r) = refused (refusal_number r)
+abbrev pub summarized : OrRefusal Summary → Result RecordFields
+summarized x = told summary_of x
 
 abbrev pub fields_of : List Entry → ℕ → Result RecordFields
 fields_of es n = cond (is_absent es n) (refused 4) (ok (record_fields (tree_at es n)))
@@ -63,9 +54,8 @@ place_of es n k = record { number = get_or (entry_at es n).children k 0; offset 
 abbrev pub place : Child → Place
 place c = record { number = c.number; offset = c.offset }
 
-abbrev pub placed : ChildAt → Result Place
-placed (Found c) = ok (place c)
-placed (child.Refused r) = refused (refusal_number r)
+abbrev pub placed : OrRefusal Child → Result Place
+placed x = told place x
 
 abbrev pub child_of : List Entry → ℕ → ℕ → Result Place
 child_of es n k =

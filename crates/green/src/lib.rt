@@ -4,6 +4,9 @@
 
 #![tactic(auto)]
 
+ghost use Rattle.green.specs.Store.{store};
+ghost use Rattle.green.specs.Valid.{Valid, valid_props};
+
 pub mod element;
 pub mod node;
 pub mod record;
@@ -11,3 +14,14 @@ pub mod token;
 
 // How many of each are in use: records, child places, text bytes. The other places are spare, and 0 in a store that is in order.
 pub type Counts = [usize; 8];
+
+// The store as it is lent to be read: records of eight words, child places, text bytes, and how many of each are in use.
+// The text has a lifetime of its own, since a part of it may be kept while records and child places are written.
+#[derive(Clone, Copy)]
+pub struct Store<'a, 't> {
+    pub records: &'a [u64],
+    pub children: &'a [u64],
+    pub text: &'t [u8],
+    pub used: &'a Counts,
+    ghost valid: { Valid (store records.now children.now text.now used.now) } by { Prim.hlevel valid_props },
+}

@@ -7,91 +7,88 @@ ghost use Rattle.definitions.specs.Tree.{kind, is_node, text_len, size, height};
 ghost use Rattle.definitions.specs.Hash.{hash};
 ghost use Rattle.definitions.specs.Entry.{entry_at, tree_at};
 ghost use Rattle.green.specs.Layout.{tag, own_count, header_words, first_of, words_of};
-ghost use Rattle.green.specs.Store.{here, entered, entries};
+ghost use Rattle.green.specs.Store.{entries};
+ghost use Rattle.green.specs.View.{view};
 ghost use Rattle.green.specs.Valid.{Known};
 ghost use Rattle.green.specs.Measure.{MeasureOf, Summable};
 
-use crate::Counts;
+use crate::Store;
 use utility_types::SyntaxKind;
 
-// Word `f` of record `n`.
-fn word(records: &[u64], children: &[u64], text: &[u8], used: &Counts, n: usize, f: usize) -> u64
-    requires { Known (here records children text used) n × (f < 8) }
-    ensures { result ≡ get_or (words_of (entries (entered records children text used)) n) f 0 }
-{
-    records[n * 8 + f]
-}
+impl Store<'_, '_> {
+    // Word `f` of record `n`.
+    fn word(self, n: usize, f: usize) -> u64
+        requires { Known (view self) n × (f < 8) }
+        ensures { result ≡ get_or (words_of (entries (view self.entry)) n) f 0 }
+    {
+        self.records[n * 8 + f]
+    }
 
-// 0 for a token, 1 for a node that an event made, 2 for a node that an edit made.
-pub fn tag_of(records: &[u64], children: &[u64], text: &[u8], used: &Counts, n: usize) -> u64
-    requires { Known (here records children text used) n }
-    ensures { result ≡ tag (entry_at (entries (entered records children text used)) n) }
-{
-    word(records, children, text, used, n, 0) / 65536
-}
+    // 0 for a token, 1 for a node that an event made, 2 for a node that an edit made.
+    pub fn tag_of(self, n: usize) -> u64
+        requires { Known (view self) n }
+        ensures { result ≡ tag (entry_at (entries (view self.entry)) n) }
+    {
+        self.word(n, 0) / 65536
+    }
 
-pub fn is_node(records: &[u64], children: &[u64], text: &[u8], used: &Counts, n: usize) -> bool
-    requires { Known (here records children text used) n }
-    ensures { result ≡ is_node (tree_at (entries (entered records children text used)) n) }
-{
-    0 < tag_of(records, children, text, used, n)
-}
+    pub fn is_node(self, n: usize) -> bool
+        requires { Known (view self) n }
+        ensures { result ≡ is_node (tree_at (entries (view self.entry)) n) }
+    {
+        0 < self.tag_of(n)
+    }
 
-pub fn kind_of(
-    records: &[u64],
-    children: &[u64],
-    text: &[u8],
-    used: &Counts,
-    n: usize,
-) -> SyntaxKind
-    requires { Known (here records children text used) n }
-    ensures { result.0 ≡ kind (tree_at (entries (entered records children text used)) n) }
-{
-    SyntaxKind((word(records, children, text, used, n, 0) % 65536) as u16)
-}
+    pub fn kind_of(self, n: usize) -> SyntaxKind
+        requires { Known (view self) n }
+        ensures { result.0 ≡ kind (tree_at (entries (view self.entry)) n) }
+    {
+        SyntaxKind((self.word(n, 0) % 65536) as u16)
+    }
 
-// Where its own child places or text bytes start.
-pub fn first_of(records: &[u64], children: &[u64], text: &[u8], used: &Counts, n: usize) -> usize
-    requires { Known (here records children text used) n }
-    ensures { result ≡ first_of (entries (entered records children text used)) n }
-{
-    word(records, children, text, used, n, 1) as usize
-}
+    // Where its own child places or text bytes start.
+    pub fn first_of(self, n: usize) -> usize
+        requires { Known (view self) n }
+        ensures { result ≡ first_of (entries (view self.entry)) n }
+    {
+        self.word(n, 1) as usize
+    }
 
-// How many they are.
-pub fn count_of(records: &[u64], children: &[u64], text: &[u8], used: &Counts, n: usize) -> usize
-    requires { Known (here records children text used) n }
-    ensures { result ≡ own_count (entry_at (entries (entered records children text used)) n) }
-{
-    word(records, children, text, used, n, 2) as usize
-}
+    // How many they are.
+    pub fn count_of(self, n: usize) -> usize
+        requires { Known (view self) n }
+        ensures { result ≡ own_count (entry_at (entries (view self.entry)) n) }
+    {
+        self.word(n, 2) as usize
+    }
 
-pub fn text_len(records: &[u64], children: &[u64], text: &[u8], used: &Counts, n: usize) -> usize
-    requires { Known (here records children text used) n }
-    ensures { result ≡ text_len (tree_at (entries (entered records children text used)) n) }
-{
-    word(records, children, text, used, n, 3) as usize
-}
+    pub fn text_len(self, n: usize) -> usize
+        requires { Known (view self) n }
+        ensures { result ≡ text_len (tree_at (entries (view self.entry)) n) }
+    {
+        self.word(n, 3) as usize
+    }
 
-pub fn size_of(records: &[u64], children: &[u64], text: &[u8], used: &Counts, n: usize) -> usize
-    requires { Known (here records children text used) n }
-    ensures { result ≡ size (tree_at (entries (entered records children text used)) n) }
-{
-    word(records, children, text, used, n, 4) as usize
-}
+    pub fn size_of(self, n: usize) -> usize
+        requires { Known (view self) n }
+        ensures { result ≡ size (tree_at (entries (view self.entry)) n) }
+    {
+        self.word(n, 4) as usize
+    }
 
-pub fn height_of(records: &[u64], children: &[u64], text: &[u8], used: &Counts, n: usize) -> usize
-    requires { Known (here records children text used) n }
-    ensures { result ≡ height (tree_at (entries (entered records children text used)) n) }
-{
-    word(records, children, text, used, n, 5) as usize
-}
+    pub fn height_of(self, n: usize) -> usize
+        requires { Known (view self) n }
+        ensures { result ≡ height (tree_at (entries (view self.entry)) n) }
+    {
+        self.word(n, 5) as usize
+    }
 
-pub fn hash_of(records: &[u64], children: &[u64], text: &[u8], used: &Counts, n: usize) -> u64
-    requires { Known (here records children text used) n }
-    ensures { result ≡ hash (tree_at (entries (entered records children text used)) n) }
-{
-    word(records, children, text, used, n, 6)
+    pub fn hash_of(self, n: usize) -> u64
+        requires { Known (view self) n }
+        ensures { result ≡ hash (tree_at (entries (view self.entry)) n) }
+    {
+        self.word(n, 6)
+    }
 }
 
 // What every record keeps of its element, for the node above it.
@@ -103,22 +100,18 @@ pub struct Measure {
     pub hash: u64,
 }
 
-// That of an element that is there.
-pub fn measure_of(
-    records: &[u64],
-    children: &[u64],
-    text: &[u8],
-    used: &Counts,
-    n: usize,
-) -> Measure
-    requires { Known (here records children text used) n }
-    ensures { MeasureOf (tree_at (entries (entered records children text used)) n) result × Summable result }
-{
-    Measure {
-        len: text_len(records, children, text, used, n),
-        size: size_of(records, children, text, used, n),
-        height: height_of(records, children, text, used, n),
-        hash: hash_of(records, children, text, used, n),
+impl Store<'_, '_> {
+    // That of an element that is there.
+    pub fn measure_of(self, n: usize) -> Measure
+        requires { Known (view self) n }
+        ensures { MeasureOf (tree_at (entries (view self.entry)) n) result × Summable result }
+    {
+        Measure {
+            len: self.text_len(n),
+            size: self.size_of(n),
+            height: self.height_of(n),
+            hash: self.hash_of(n),
+        }
     }
 }
 

@@ -3,23 +3,20 @@
 ghost use Rattle.std.specs.Prelude.{◌≡◌, false};
 ghost use Rattle.definitions.specs.Tree.{is_node, text};
 ghost use Rattle.definitions.specs.Entry.{tree_at};
-ghost use Rattle.green.specs.Store.{here, entered, entries};
+ghost use Rattle.green.specs.Store.{entries};
+ghost use Rattle.green.specs.View.{view};
 ghost use Rattle.green.specs.Valid.{Known};
 
-use crate::{Counts, record};
+use crate::Store;
 
-// The bytes of a token: the part of the lent text itself.
-pub fn text_of<'a>(
-    records: &[u64],
-    children: &[u64],
-    text: &'a [u8],
-    used: &Counts,
-    n: usize,
-) -> &'a [u8]
-    requires { Known (here records children text used) n × (is_node (tree_at (entries (here records children text used)) n) ≡ false) }
-    ensures { result.now ≡ Rattle.definitions.specs.Tree.text (tree_at (entries (entered records children text used)) n) }
-{
-    let first = record::first_of(records, children, text, used, n);
-    let count = record::count_of(records, children, text, used, n);
-    &text[first..first + count]
+impl<'t> Store<'_, 't> {
+    // The bytes of a token: the part of the lent text itself.
+    pub fn text_of(self, n: usize) -> &'t [u8]
+        requires { Known (view self) n × (is_node (tree_at (entries (view self)) n) ≡ false) }
+        ensures { result.now ≡ Rattle.definitions.specs.Tree.text (tree_at (entries (view self.entry)) n) }
+    {
+        let first = self.first_of(n);
+        let count = self.count_of(n);
+        &self.text[first..first + count]
+    }
 }

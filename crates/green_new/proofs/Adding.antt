@@ -229,7 +229,7 @@ module _ {a₀ : Over} {es : List Entry} {ns : List ℕ} {a : Over} {i : ℕ} (g
       let z : i ≡ length ns = omega (arith, g.within) in
       (rw (← z) g.room, rw (take_all i ns l) at g.adds)
 
--- the same of a range of a node's children
+-- the same of a range of a node's children, up to child i
 module _ {s : Store} {n from to : ℕ} (g : Range s n from to) where
   abbrev ns : List ℕ
   ns = slice from to (entry_at (entries s) n).children
@@ -237,15 +237,22 @@ module _ {s : Store} {n from to : ℕ} (g : Range s n from to) where
   long : length ns ≡ to - from
   long = length-slice from to (entry_at (entries s) n).children g.within
 
-  module _ {a₀ a : Over} {i : ℕ} (p : Adding a₀ (entries s) ns a i) where
-    pub range_room : RoomFor a₀ (to - from) → i < to - from → {x : Measure} → Summable x → RoomFor a 1 × Summable x
-    range_room r l q = adding_room p (rw long r) (omega (arith, long)) q
+  pub range_none : {a : Over} → RoomFor a (to - from) → Adding a (entries s) ns a (from - from)
+  range_none r = let z : from - from ≡ 0 = omega arith in rw z (adding_none r)
 
-    pub range_more : i < to - from → {c : ℕ} → c ≡ get_or (entry_at (entries s) n).children (from + i) 0 → {x : Measure} → MeasureOf (tree_at (entries s) c) x
-        → {b : Over} → Addable b (a.count + 1) → AddsOne a x b → Adding a₀ (entries s) ns b (i + 1)
-    range_more l e m r q = adding_more p (omega (arith, long)) (e ∙ sym (slice_at (entry_at (entries s) n).children from to i 0 (omega arith))) m r q
+  module _ {a₀ a : Over} {i : ℕ} (p : Adding a₀ (entries s) ns a (i - from)) where
+    pub range_room : RoomFor a₀ (to - from) → from ≤ i → i < to → {x : Measure} → Summable x → RoomFor a 1 × Summable x
+    range_room r f l q = adding_room p (rw long r) (omega (arith, long)) q
 
-    pub range_all : to - from ≤ i → Addable a (a₀.count + (to - from)) × Adds a₀ (trees_at (entries s) ns) a
+    pub range_more : from ≤ i → i < to → {c : ℕ} → c ≡ get_or (entry_at (entries s) n).children i 0 → {x : Measure} → MeasureOf (tree_at (entries s) c) x
+        → {b : Over} → Addable b (a.count + 1) → AddsOne a x b → Adding a₀ (entries s) ns b (i + 1 - from)
+    range_more f l e m r q =
+        let cs = (entry_at (entries s) n).children in
+        let z : from + (i - from) ≡ i = omega arith in
+        let y : i + 1 - from ≡ i - from + 1 = omega arith in
+        rw y (adding_more p (omega (arith, long)) (e ∙ sym (slice_at cs from to (i - from) 0 (omega arith) ∙ ap (λ k. get_or cs k 0) z)) m r q)
+
+    pub range_all : to ≤ i → Addable a (a₀.count + (to - from)) × Adds a₀ (trees_at (entries s) ns) a
     range_all l = rw long at (adding_all p (omega (arith, long)))
 
 -- over_children: all are added to a childless node

@@ -5,15 +5,16 @@ ghost use Rattle.std.proofs.Math.Seq.{slice};
 ghost use Rattle.definitions.specs.Tree.{token, nil};
 ghost use Rattle.definitions.specs.Hash.{add_word, token_hash};
 ghost use Rattle.definitions.specs.Entry.{entry_at, trees_at};
-ghost use Rattle.green.specs.Store.{here, entered, entries};
-ghost use Rattle.green.specs.Valid.{AllBelow, Valid};
+ghost use Rattle.green.specs.Store.{entries};
+ghost use Rattle.green.specs.View.{view};
+ghost use Rattle.green.specs.Valid.{AllBelow};
 ghost use Rattle.green.specs.Measure.{MeasureOf, Summable};
 ghost use Rattle.green_new.specs.Over.{OverOf, Addable, RoomFor, Adds, AddsOne, Range};
 ghost use Rattle.green_new.specs.Exchange.{Exchangeable, AfterExchange};
 
+use green::Store;
 use green::record::Measure;
-use green::{Counts, node, record};
-use utility_types::{SyntaxKind, number};
+use utility_types::SyntaxKind;
 
 // A node over the children that were added: how many they are, whether it is sharable, and its measure.
 #[derive(Clone, Copy)]
@@ -35,10 +36,8 @@ fn token_hash(kind: SyntaxKind, text: &[u8]) -> u64
     ensures { result ≡ token_hash kind.0 text.now }
 {
     let mut h = kind_hash(kind);
-    let mut i = 0;
-    while i < text.len() {
-        h = fx_hash::add_word(h, number::wide(text[i]) as u64);
-        i += 1;
+    for byte in text {
+        h = fx_hash::add_word(h, *byte as u64);
     }
     fx_hash::add_word(h, 255)
 }
@@ -103,7 +102,7 @@ pub fn plus(a: Over, x: Measure) -> Over
     let is_sharable = stays_sharable(a, x.hash);
     let m = a.measure;
     let hash = mixed(is_sharable, m.hash, x.hash);
-    let height = number::greater(m.height, x.height + 1);
+    let height = m.height.max(x.height + 1);
     let len = m.len + x.len;
     let size = m.size + x.size;
     Over {
@@ -119,68 +118,39 @@ pub fn plus(a: Over, x: Measure) -> Over
 }
 
 // The elements of these numbers more, in order.
-pub fn plus_numbers(
-    records: &[u64],
-    children: &[u64],
-    text: &[u8],
-    used: &Counts,
-    a: Over,
-    numbers: &[u32],
-) -> Over
-    requires valid { Valid (here records children text used) × AllBelow (length (entries (here records children text used))) numbers.now }
+pub fn plus_numbers(store: Store<'_, '_>, a: Over, numbers: &[u32]) -> Over
+    requires all_below { AllBelow (length (entries (view store))) numbers.now }
     requires room_for { RoomFor a (length numbers.now) }
-    ensures { Addable result (a.count + length numbers.now) × Adds a (trees_at (entries (entered records children text used)) numbers.now) result }
+    ensures { Addable result (a.count + length numbers.now) × Adds a (trees_at (entries (view store.entry)) numbers.now) result }
 {
     let mut over = a;
-    let mut i = 0;
-    while i < numbers.len() {
-        let x = record::measure_of(records, children, text, used, number::widen(numbers[i]));
+    for n in numbers {
+        let x = store.measure_of(*n as usize);
         over = plus(over, x);
-        i += 1;
     }
     over
 }
 
 // The children `from..to` of node `n` more.
-pub fn plus_children(
-    records: &[u64],
-    children: &[u64],
-    text: &[u8],
-    used: &Counts,
-    a: Over,
-    n: usize,
-    from: usize,
-    to: usize,
-) -> Over
-    requires { Range (here records children text used) n from to × RoomFor a (to - from) }
-    ensures { Addable result (a.count + (to - from)) × Adds a (trees_at (entries (entered records children text used)) (slice from to (entry_at (entries (entered records children text used)) n).children)) result }
+pub fn plus_children(store: Store<'_, '_>, a: Over, n: usize, from: usize, to: usize) -> Over
+    requires { Range (view store) n from to × RoomFor a (to - from) }
+    ensures { Addable result (a.count + (to - from)) × Adds a (trees_at (entries (view store.entry)) (slice from to (entry_at (entries (view store.entry)) n).children)) result }
 {
-    let count = to - from;
     let mut over = a;
-    let mut i = 0;
-    while i < count {
-        let child = node::nth_child(records, children, text, used, n, from + i);
-        let x = record::measure_of(records, children, text, used, child.number);
+    for i in from..to {
+        let child = store.nth_child(n, i);
+        let x = store.measure_of(child.number);
         over = plus(over, x);
-        i += 1;
     }
     over
 }
 
 // A node over these children.
-pub fn over_children(
-    records: &[u64],
-    children: &[u64],
-    text: &[u8],
-    used: &Counts,
-    kind: SyntaxKind,
-    numbers: &[u32],
-) -> Over
-    requires valid { Valid (here records children text used) }
-    requires all_below { AllBelow (length (entries (here records children text used))) numbers.now × (length numbers.now ≤ 4096) }
-    ensures { OverOf kind.0 (trees_at (entries (entered records children text used)) numbers.now) result }
+pub fn over_children(store: Store<'_, '_>, kind: SyntaxKind, numbers: &[u32]) -> Over
+    requires { AllBelow (length (entries (view store))) numbers.now × (length numbers.now ≤ 4096) }
+    ensures { OverOf kind.0 (trees_at (entries (view store.entry)) numbers.now) result }
 {
-    plus_numbers(records, children, text, used, childless(kind), numbers)
+    plus_numbers(store, childless(kind), numbers)
 }
 
 // Whether the highest child after an exchange is known without those that stay: one that comes is as high as any was, or none that goes was the highest.
@@ -196,7 +166,7 @@ pub fn exchanged(own: Measure, gone: Measure, come: Measure) -> Measure
     requires { Exchangeable own gone come }
     ensures { AfterExchange own gone come result }
 {
-    let height = number::greater(own.height, come.height);
+    let height = own.height.max(come.height);
     Measure {
         len: own.len - gone.len + come.len,
         size: own.size - gone.size + come.size,

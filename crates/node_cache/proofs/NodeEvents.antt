@@ -16,7 +16,6 @@ use Rattle.definitions.proofs.Entries.{trees_at_count}
 use Rattle.definitions.proofs.Hashing.{many_unshared}
 use Rattle.definitions.proofs.Sharing.{event_there}
 use Rattle.utility_types.specs.declared.Refusal.TheVariants.{TooLarge, NoRoom}
-use Rattle.utility_types.specs.declared.Made.TheVariants.{Number, Refused}
 use Rattle.green.specs.Store.{Store, entries, limits}
 use Rattle.green.specs.Valid.{AllBelow, AllEvents, Valid}
 use Rattle.green_new.specs.Ready.{within_limits, has_room, NodeReady, Pushed}
@@ -27,9 +26,8 @@ use Rattle.green.specs.Measure.{MeasureOf}
 use Rattle.green.specs.declared.record.Measure.{Measure}
 use Rattle.green_new.proofs.Making.{node_limits}
 use Rattle.node_cache.specs.Search.{found, NodeSought}
-use Rattle.node_cache.specs.declared.search.Search.{Search}
-use Rattle.node_cache.specs.declared.search.Search.TheVariants.{Missing}
 use Rattle.node_cache.proofs.Events.{event_missing, event_large, event_full, event_room, event_made}
+use Rattle.std.specs.Prelude.{Ok, Err, None, Option as Optional}
 
 pub events_below : (es : List Entry) (ns : List ℕ) → AllEvents es ns → AllBelow (length es) ns
 unfolding AllEvents AllBelow
@@ -54,13 +52,13 @@ module _ (es : List Entry) {k : ℕ} (ns : List ℕ) {x : Over} (h : OverOf k (t
     node_reused = rw is_shared
 
 -- a node over too many children is not looked for
-pub node_many : {s : Store} → Valid s → (k : ℕ) (ns : List ℕ) → 4096 < length ns → Done s s (share (limits s) (entries s) (node_entry true (entries s) k ns)) (Refused TooLarge)
+pub node_many : {s : Store} → Valid s → (k : ℕ) (ns : List ℕ) → 4096 < length ns → Done s s (share (limits s) (entries s) (node_entry true (entries s) k ns)) (Err TooLarge)
 unfolding is_too_large exceeds_limits children_of reuse
 node_many {s} v k ns l =
-    event_large v (node_entry true (entries s) k ns) Missing (rw (sym (many_unshared (entries s) k ns (omega arith)).0)) refl
+    event_large v (node_entry true (entries s) k ns) None (rw (sym (many_unshared (entries s) k ns (omega arith)).0)) refl
     (rw (trees_at_count (entries s) ns, lt-ltb 4096 (length ns) l))
 
-module _ {s : Store} (v : Valid s) (k : ℕ) (ns : List ℕ) (r : Search) (f : found r ≡ reuse (entries s) (node k (trees_at (entries s) ns))) (p : r ≡ Missing) where
+module _ {s : Store} (v : Valid s) (k : ℕ) (ns : List ℕ) (r : Optional ℕ) (f : found r ≡ reuse (entries s) (node k (trees_at (entries s) ns))) (p : r ≡ None) where
   abbrev e : Entry
   e = node_entry true (entries s) k ns
 
@@ -68,7 +66,7 @@ module _ {s : Store} (v : Valid s) (k : ℕ) (ns : List ℕ) (r : Search) (f : f
     too_large : not w ≡ is_too_large e.tree
     too_large = ap not (within (length ns) few) ∙ not-not _ ∙ sym (node_limits k m (sym (trees_at_count (entries s) ns)))
 
-    pub node_large : not w ≡ true → Done s s (share (limits s) (entries s) e) (Refused TooLarge)
+    pub node_large : not w ≡ true → Done s s (share (limits s) (entries s) e) (Err TooLarge)
     node_large q = event_large v e r f p (sym too_large ∙ q)
 
     module _ (fits : not w ≡ false) {b : Bool} (room : b ≡ has_room s 1 (length ns) 0) where
@@ -79,7 +77,7 @@ module _ {s : Store} (v : Valid s) (k : ℕ) (ns : List ℕ) (r : Search) (f : f
       unfolding own_bytes
       own = refl
 
-      pub node_full : not b ≡ true → Done s s (share (limits s) (entries s) e) (Refused NoRoom)
+      pub node_full : not b ≡ true → Done s s (share (limits s) (entries s) e) (Err NoRoom)
       node_full q = event_full v e r f p small refl own room q
 
       module _ (q : not b ≡ false) where
@@ -90,5 +88,5 @@ module _ {s : Store} (v : Valid s) (k : ℕ) (ns : List ℕ) (r : Search) (f : f
           room = event_room v e r f p small refl own room q;
         }
 
-        pub node_made : {s' : Store} → Pushed s s' e → Done s s' (share (limits s) (entries s) e) (Number (get_or s.used 0 0))
+        pub node_made : {s' : Store} → Pushed s s' e → Done s s' (share (limits s) (entries s) e) (Ok (get_or s.used 0 0))
         node_made u = event_made v e r f p small refl own room q u

@@ -1,5 +1,5 @@
 -- Records passed over in a search, as their hash is another. Assumes nothing.
-use Prim.Native.Nat.{ℕ, zero, suc, ◌+◌, ◌-◌, ◌≤◌, ◌<◌}
+use Prim.Native.Nat.{ℕ, max, zero, suc, ◌+◌, ◌-◌, ◌≤◌, ◌<◌}
 use native.Mathlib.Omega.{arith}
 use native.Mathlib.Decide.{dec_lt}
 use mathlib.Core.Path.{◌≡◌, refl, sym, ap, subst, ◌∙◌}
@@ -32,8 +32,8 @@ module _ {es : List Entry} {h from : ℕ} where
     pub stop_alike : x ≡ h → FirstAlike es h from i
     stop_alike q = record { none = m; alike = λ _. sym e ∙ q }
 
-  pub stop_end : {i : ℕ} → NoneAlike es h from i → length es ≤ i → FirstAlike es h from i
-  stop_end m l = record { none = m; alike = λ b. absurd (omega arith) }
+  pub stop_end : {i n : ℕ} → NoneAlike es h from i → n ≡ length es → n ≤ i → {r : ℕ} → r ≡ max from n → FirstAlike es h from r
+  stop_end m e l q = record { none = record { after = omega (arith, q); others = λ j a b. m.others j a (omega (arith, q, m.after)) }; alike = λ b. absurd (omega (arith, e, q)) }
 
 -- what is sought from `from` on is sought from there on
 seek_over : {es : List Entry} {h : ℕ} {t : Tree} → h ≡ hash t → (n from : ℕ) → ((j : ℕ) → from ≤ j → j < from + n → (j < length es) × (hash (tree_at es j) ≡ h → ⊥))

@@ -5,12 +5,11 @@ use Rattle.definitions.specs.Tree.{node}
 use Rattle.definitions.specs.Hash.{hash, sharable}
 use Rattle.definitions.specs.Entry.{Entry, tree_at, trees_at}
 use Rattle.green.specs.Valid.{AllEvents}
-use Rattle.node_cache.specs.declared.search.Search.{Search}
-use Rattle.node_cache.specs.declared.search.Search.TheVariants.{Found, Missing}
+use Rattle.std.specs.Prelude.{Some, None, Option as Optional}
 
-abbrev pub found : Search → Option ℕ
-found (Found n) = some n
-found Missing = none
+abbrev pub found : Optional ℕ → Option ℕ
+found (Some n) = some n
+found None = none
 
 -- a sharable node over what events made, with its hash
 pub record NodeSought (es : List Entry) (k : ℕ) (ns : List ℕ) (h : ℕ) : Type 0 where

@@ -12,7 +12,6 @@ use Rattle.definitions.specs.EditCall.{makes}
 use Rattle.definitions.proofs.Growing.{Grows, grows_none, event_accepts, run_grows}
 use Rattle.laws.proofs.SharedEvents.{share_gets}
 use Rattle.laws.proofs.TreeEdits.{edit_makes}
-use Rattle.utility_types.specs.declared.Made.{Made as Answer}
 use Rattle.green.specs.Store.{Store, limits, entries}
 use Rattle.green.specs.Valid.{Valid}
 use Rattle.green_new.specs.Done.{entries_after, Done}
@@ -20,6 +19,7 @@ use Rattle.builder.specs.Places.{BuilderPlaces, state_of}
 use Rattle.builder.specs.EventDone.{state_after, EventDone}
 use Rattle.builder.specs.declared.state.EventAnswer.{EventAnswer}
 use Rattle.notes_tree.specs.History.{Write, Wrote}
+use Rattle.utility_types.specs.Numbers.{OrRefusal}
 
 -- a call that is a function of the entries
 result_grows : (es : List Entry) (x : Result Made) → ((m : Made) → x ≡ ok m → Grows es m.entries) → Grows es (entries_after es x)
@@ -48,7 +48,7 @@ event_grows {s} {s'} {b} c k x left d =
     (g.0, ap (λ y. y.entries) d.leaves ∙ g.1)
 
 -- an element that is shared, as `token` of the node cache ensures it
-pub share_grows : {s s' : Store} {r : Answer} (e : Entry) → e.event ≡ true → Done s s' (share (limits s) (entries s) e) r → Grows (entries s) (entries s')
+pub share_grows : {s s' : Store} {r : OrRefusal ℕ} (e : Entry) → e.event ≡ true → Done s s' (share (limits s) (entries s) e) r → Grows (entries s) (entries s')
 share_grows {s} e made d =
     let g = result_grows (entries s) (share (limits s) (entries s) e) (λ m h. (share_gets (limits s) (entries s) e m made h).grows) in
     (g.0, d.spells ∙ g.1)

@@ -13,13 +13,11 @@ use Rattle.definitions.specs.Element.{Element, element_at}
 use Rattle.definitions.proofs.Growing.{Grows}
 use Rattle.definitions.specs.NodeCache.{share}
 use Rattle.definitions.specs.Run.{event}
-use Rattle.utility_types.specs.declared.Made.{Made}
 use Rattle.green.specs.Store.{Store, limits, entries, both}
 use Rattle.green_new.specs.Done.{Done}
 use Rattle.green.specs.Valid.{Valid}
 use Rattle.cursor.specs.declared.position.Cursor.{Cursor}
 use Rattle.cursor.specs.Position.{Placed}
-use Rattle.syntax_text.specs.declared.text.Checked.TheVariants.{Within}
 use Rattle.syntax_text.specs.Text.{nowhere_at, astray_at, Checks}
 use Rattle.syntax_text_chunks.specs.Chunks.{top_of, ChunkComing, KeptPlace, ChunkKept}
 use Rattle.notes_tree.specs.History.{Write, Wrote}
@@ -33,6 +31,8 @@ use Rattle.sheet_run.specs.declared.Outcome.{Outcome}
 use Rattle.definitions.proofs.Kept.{events_kept}
 use Rattle.notes_tree.proofs.Growing.{wrote_valid, wrote_grows, event_grows, share_grows}
 use Rattle.notes_tree.proofs.Keeping.{coming_as}
+use Rattle.std.specs.Prelude.{Ok}
+use Rattle.utility_types.specs.Numbers.{OrRefusal}
 
 -- WHATEVER MAKES RECORDS: the store s' is in order, and its entries are those of s and more
 module _ {s s' : Store} (v : Valid s) (v' : Valid s') (g : Grows (entries s) (entries s')) where
@@ -47,7 +47,7 @@ module _ {s s' : Store} (v : Valid s) (v' : Valid s') (g : Grows (entries s) (en
       let w = tree_stays c.number p.known.within in
       (record { known = record { valid = v'; within = omega (arith, longer, p.known.within) }; deep = rw (← w) p.deep; far = rw (← w) p.far }, w)
 
-  module _ (r depth : ℕ) (l : List ℕ) (a b : ℕ) (h : r < length (entries s)) (d : Cursor) (e : Checks s' r depth l a b (Within d)) where
+  module _ (r depth : ℕ) (l : List ℕ) (a b : ℕ) (h : r < length (entries s)) (d : Cursor) (e : Checks s' r depth l a b (Ok d)) where
     unnamed : is_node (tree_at (entries s') r) ≡ false → none ≡ element_at (tree_at (entries s') r) (take depth l)
     unfolding element_at
     unnamed k = rw k refl
@@ -103,5 +103,5 @@ event_fit c k x left v d = grown_fit v d.builder_valid.valid (event_grows c k x 
 pub step_fit : {s s' : Store} {b b' : BuilderPlaces} {sheet source : List ℕ} {i at : ℕ} {r : Outcome} → Valid s → StepDone (both s s') (both b b') sheet source i at r → StillFit s s'
 step_fit v d = event_fit _ _ _ _ v d.stepped
 
-pub token_fit : {s s' : Store} {r : Made} (k : ℕ) (bytes : List ℕ) → Valid s → Done s s' (share (limits s) (entries s) (token_entry k bytes)) r → StillFit s s'
+pub token_fit : {s s' : Store} {r : OrRefusal ℕ} (k : ℕ) (bytes : List ℕ) → Valid s → Done s s' (share (limits s) (entries s) (token_entry k bytes)) r → StillFit s s'
 token_fit k bytes v d = grown_fit v d.valid (share_grows (token_entry k bytes) refl d)

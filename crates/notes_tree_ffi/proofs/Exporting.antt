@@ -7,12 +7,9 @@ use mathlib.Core.Bool.{Bool}
 use mathlib.Core.Option.{Option, none, some, none-ne-some, some-injective}
 use lib.ListN.{length, get_or, set}
 use lib.Seq.{sets}
-use Rattle.utility_types.specs.declared.Made.{Made}
 use Rattle.green.specs.Store.{Store, limits, entries, both}
 use Rattle.green_new.specs.Done.{Done}
 use Rattle.preorder.specs.declared.state.Coming.{Coming}
-use Rattle.preorder.specs.declared.state.Moved.{Moved}
-use Rattle.preorder.specs.declared.state.Moved.TheVariants as moved
 use Rattle.preorder.specs.declared.state.Step.{Step}
 use Rattle.preorder.specs.Walks.{next_of, WalkStepped, WalkBegun, Short}
 use Rattle.preorder.specs.Walks as walks
@@ -23,7 +20,6 @@ use Rattle.syntax_text_chunks.specs.Chunks.{part_of, PartLies, ChunkStepped}
 use Rattle.query.specs.declared.question.Question.{Question}
 use Rattle.query.specs.declared.reply.Reply.{Reply}
 use Rattle.query.specs.Answered.{Answered}
-use Rattle.sheet.specs.declared.Ended.{Ended}
 use Rattle.sheet_run.specs.RunDone.{RunDone, YieldsDone}
 use Rattle.notes_tree.specs.History.{Edit, makes}
 use Rattle.notes_tree.specs.Demand3.{WalkDone}
@@ -31,6 +27,10 @@ use Rattle.abi.specs.Outcomes.{told, unknown_outcome, OutputWritten, ended_told,
 use Rattle.abi.specs.WalkWords.{walk_coming, walk_depth, walk_start, walk_root, walk_tokens, WalkInWords, moved_on, begun_in, skipped_in}
 use Rattle.notes_tree_ffi.specs.Exports.{RunExported, Edited, EditExported, Replied, QueryExported, WalkBegins, WalkSteps, WalkSkips, WalkGives, ChunkGives}
 use Rattle.notes_tree_ffi.proofs.Going.{run_on_lem, edit_on, next_on, skip_on, chunk_on}
+use Rattle.std.specs.Prelude.{Ok, Err}
+use Rattle.utility_types.specs.Numbers.{OrRefusal}
+use Rattle.preorder.specs.declared.state.Ahead.{Ahead}
+use Rattle.sheet.specs.Ended.{Ended}
 
 -- the calls that write
 pub run_told : {s s' : Store} {sheet source yields' m m' : List ℕ} {e : Ended} {x : ℕ} (yields : List ℕ) → length yields ≡ 4096
@@ -38,7 +38,7 @@ pub run_told : {s s' : Store} {sheet source yields' m m' : List ℕ} {e : Ended}
     → RunExported (both s s') (both yields yields') sheet source (both m m') x
 run_told {e = e} yields long d y w = record { ended = e; done = d; yielded = y; carries = run_on_lem yields long d y; written = w }
 
-pub edit_told : (e : Edit) {s s' : Store} {o : Option Edit} {m m' : List ℕ} {r : Made} {x : ℕ} → o ≡ some e → Done s s' (makes e (limits s) (entries s)) r → OutputWritten (made_told r) m m' x
+pub edit_told : (e : Edit) {s s' : Store} {o : Option Edit} {m m' : List ℕ} {r : OrRefusal ℕ} {x : ℕ} → o ≡ some e → Done s s' (makes e (limits s) (entries s)) r → OutputWritten (made_told r) m m' x
     → EditExported (both s s') o (both m m') x
 edit_told e {s} {s'} {m = m} {m'} {r} {x} h d w = record {
   known = λ f p. subst (λ g. Edited (both s s') g (both m m') x) (some-injective _ _ (sym h ∙ p)) (record { made = r; done = d; carries = edit_on e d; written = w });
@@ -70,13 +70,13 @@ begun_short [] a d e f g h k = absurd (let z : ⊥ = omega (arith, h) in z)
 begun_short (p ∷ []) a d e f g h k = absurd (let z : ⊥ = omega (arith, h) in z)
 begun_short (p ∷ q ∷ w) a d e f g h k = record { short = k }
 
-begin_keeps : (w : List ℕ) (root : ℕ) (tokens : Bool) (x : Moved) → 8 ≤ length w → Short x → WalkInWords w → WalkInWords (begun_in w root tokens x)
-begin_keeps w root tokens (moved.To a) h k v = begun_short w _ a.depth _ _ _ h k
-begin_keeps w root tokens (moved.Refused r) h k v = v
+begin_keeps : (w : List ℕ) (root : ℕ) (tokens : Bool) (x : OrRefusal Ahead) → 8 ≤ length w → Short x → WalkInWords w → WalkInWords (begun_in w root tokens x)
+begin_keeps w root tokens (Ok a) h k v = begun_short w _ a.depth _ _ _ h k
+begin_keeps w root tokens (Err r) h k v = v
 
-skip_keeps : (w : List ℕ) (x : Moved) → 8 ≤ length w → Short x → WalkInWords w → WalkInWords (skipped_in w x)
-skip_keeps w (moved.To a) h k v = moved_short w _ a.depth h k
-skip_keeps w (moved.Refused r) h k v = v
+skip_keeps : (w : List ℕ) (x : OrRefusal Ahead) → 8 ≤ length w → Short x → WalkInWords w → WalkInWords (skipped_in w x)
+skip_keeps w (Ok a) h k v = moved_short w _ a.depth h k
+skip_keeps w (Err r) h k v = v
 
 -- what `next` and `next_many` ensure of a walk's words w
 abbrev Stepped : Store → List ℕ → List ℕ → List ℕ → Bool → Coming → Step → Type 0
@@ -87,7 +87,7 @@ Many s w l l' b k q q' g = ManyGiven (entries s) (walk_root w) b (walk_start w) 
 
 -- the calls on a walk: w and w' are its words
 module _ {s : Store} {w w' : List ℕ} (long : 8 ≤ length w) where
-  pub begin_told : {root depth : ℕ} {tokens flag : Bool} {l : List ℕ} {r : Moved} {x : ℕ} → tokens ≡ flag → WalkBegun (entries s) root depth l r
+  pub begin_told : {root depth : ℕ} {tokens flag : Bool} {l : List ℕ} {r : OrRefusal Ahead} {x : ℕ} → tokens ≡ flag → WalkBegun (entries s) root depth l r
       → w' ≡ begun_in w root tokens r → x ≡ (moved_told r).outcome → WalkBegins s root flag depth l (both w w') x
   begin_told {root} {depth} {tokens} {flag} {r = r} t b e o =
       let e₂ : w' ≡ begun_in w root flag r = rw (sym t) e in
@@ -106,7 +106,7 @@ module _ {s : Store} {w w' : List ℕ} (long : 8 ≤ length w) where
         let d₂ : Many s w l l' (walk_tokens w) (walk_coming w) q q' g = subst (λ k. Many s w l l' (walk_tokens w) k q q' g) c (subst (λ b. Many s w l l' b coming q q' g) t d) in
         record { given = g; gave = d₂; carried = WalkDone.many d₂; state = e; keeps = subst WalkInWords (sym e) (moved_short w _ g.depth long d.short); written = v }
 
-pub skip_told : {w w' : List ℕ} {coming : Coming} {r : Moved} {x : ℕ} → 8 ≤ length w → WalkInWords w → coming ≡ walk_coming w → walks.WalkSkipped (walk_depth w) coming r
+pub skip_told : {w w' : List ℕ} {coming : Coming} {r : OrRefusal Ahead} {x : ℕ} → 8 ≤ length w → WalkInWords w → coming ≡ walk_coming w → walks.WalkSkipped (walk_depth w) coming r
     → w' ≡ skipped_in w r → x ≡ (moved_told r).outcome → WalkSkips (both w w') x
 skip_told {w} {w'} {coming} {r} long v c d e o =
     let d₂ : walks.WalkSkipped (walk_depth w) (walk_coming w) r = subst (λ y. walks.WalkSkipped (walk_depth w) y r) c d in

@@ -3,13 +3,9 @@ use Rattle.std.specs.Prelude.{ℕ, ◌≡◌, List, [], ◌∷◌, Bool, get_or}
 use Rattle.std.proofs.Math.Option.{Option, none, some}
 use Rattle.std.proofs.Math.ListN.{get_elem?}
 use denote.Triple.Both.{Both}
-use Rattle.utility_types.specs.declared.Made.{Made}
 use Rattle.green.specs.Store.{Store, limits, entries}
 use Rattle.green.specs.Answers.{fields_of, summarized, child_of, placed}
-use Rattle.green.specs.declared.element.Summarized.{Summarized}
-use Rattle.green.specs.declared.node.ChildAt.{ChildAt}
 use Rattle.green_new.specs.Done.{Done}
-use Rattle.preorder.specs.declared.state.Moved.{Moved}
 use Rattle.preorder.specs.declared.state.Step.{Step}
 use Rattle.preorder.specs.Walks.{next_of, WalkStepped, WalkBegun}
 use Rattle.preorder_many.specs.declared.state.Given.{Given}
@@ -19,13 +15,17 @@ use Rattle.syntax_text_chunks.specs.Chunks.{part_of, PartLies, ChunkStepped}
 use Rattle.query.specs.declared.question.Question.{Question}
 use Rattle.query.specs.declared.reply.Reply.{Reply}
 use Rattle.query.specs.Answered.{Answered}
-use Rattle.sheet.specs.declared.Ended.{Ended}
 use Rattle.sheet_run.specs.RunDone.{RunDone, YieldsDone}
 use Rattle.notes_tree.specs.History.{Write, Call, Edit, makes}
 use Rattle.notes_tree.specs.Demand3.{WalkCall, WalkAnswer, why_no_more, WalkDone}
 use Rattle.abi.specs.Outcomes.{told, unknown_outcome, OutputWritten, ended_told, made_told, reply_told, summary_told, child_told, event_told, moved_told, given_told, chunk_told}
 use Rattle.abi.specs.WalkWords.{walk_coming, walk_depth, walk_start, walk_root, walk_tokens, WalkInWords, moved_on, begun_in, skipped_in}
 use Rattle.notes_tree_ffi.specs.Goes.{Carries, walk_state, WalkNextDone, WalkSkipDone, ChunkStepDone}
+use Rattle.utility_types.specs.Numbers.{OrRefusal}
+use Rattle.preorder.specs.declared.state.Ahead.{Ahead}
+use Rattle.green.specs.declared.element.Summary.{Summary}
+use Rattle.green.specs.declared.node.Child.{Child}
+use Rattle.sheet.specs.Ended.{Ended}
 
 -- a lent list as the function was called, and as it returns
 abbrev pub LentList : Type 0
@@ -48,7 +48,7 @@ abbrev pub edit_of : ℕ → ℕ → ℕ → ℕ → List ℕ → List ℕ → O
 edit_of code n from to news path = get_elem? (edits n from to news path) code
 
 pub record Edited (s : Both Store Store) (e : Edit) (words : LentList) (x : ℕ) : Type 0 where
-  pub made : Made
+  pub made : OrRefusal ℕ
   pub done : Done s.entry s.exit (makes e (limits s.entry) (entries s.entry)) made
   pub carries : Carries s (Call.write (Write.edit e made))
   pub written : OutputWritten (made_told made) words.entry words.exit x
@@ -64,12 +64,12 @@ pub record EditExported (s : Both Store Store) (o : Option Edit) (words : LentLi
 
 -- WHAT A RECORD KEEPS, and a node's child
 pub record ElementExported (s : Store) (n : ℕ) (words : LentList) (x : ℕ) : Type 0 where
-  pub of : Summarized
+  pub of : OrRefusal Summary
   pub is : summarized of ≡ fields_of (entries s) n
   pub written : OutputWritten (summary_told of) words.entry words.exit x
 
 pub record ChildExported (s : Store) (n k : ℕ) (words : LentList) (x : ℕ) : Type 0 where
-  pub of : ChildAt
+  pub of : OrRefusal Child
   pub is : placed of ≡ child_of (entries s) n k
   pub written : OutputWritten (child_told of) words.entry words.exit x
 
@@ -92,7 +92,7 @@ pub record QueryExported (s : Store) (root depth : ℕ) (path other : LentList) 
 -- A WALK: its beginning, its steps, a skip, and many steps at once: what the functions of `preorder` and `preorder_many` promise, which are calls of the
 -- theorem's lists. The walk's words keep their invariant
 pub record WalkBegins (s : Store) (root : ℕ) (tokens : Bool) (depth : ℕ) (l : List ℕ) (walk : LentList) (x : ℕ) : Type 0 where
-  pub moved : Moved
+  pub moved : OrRefusal Ahead
   pub begun : WalkBegun (entries s) root depth l moved
   pub state : walk.exit ≡ begun_in walk.entry root tokens moved
   pub keeps : WalkInWords walk.entry → WalkInWords walk.exit
@@ -108,7 +108,7 @@ pub record WalkSteps (s : Store) (walk path words : LentList) (x : ℕ) : Type 0
   pub written : OutputWritten (event_told step.answer) words.entry words.exit x
 
 pub record WalkSkips (walk : LentList) (x : ℕ) : Type 0 where
-  pub moved : Moved
+  pub moved : OrRefusal Ahead
   pub carried : WalkSkipDone (walk_coming walk.entry) (walk_depth walk.entry) moved
   pub state : walk.exit ≡ skipped_in walk.entry moved
   pub keeps : WalkInWords walk.exit

@@ -1,42 +1,24 @@
 // What the store's records hold.
 
-ghost use Rattle.green.specs.Store.{here, entered};
-ghost use Rattle.green.specs.Valid.{Valid};
+ghost use Rattle.green.specs.View.{view};
 ghost use Rattle.sheet_run.specs.RunDone.{list};
 ghost use Rattle.notes_tree_ffi.specs.Exports.{ElementExported, ChildExported};
 
 use abi::{Words, answer};
-use green::{Counts, element, node};
+use green::Store;
 
 // What a record keeps of its element.
-pub fn notes_element(
-    records: &[u64],
-    children: &[u64],
-    text: &[u8],
-    used: &Counts,
-    number: usize,
-    words: &mut Words,
-) -> usize
-    requires { Valid (here records children text used) }
-    ensures { ElementExported (entered records children text used) number (list words) result }
+pub fn notes_element(store: Store<'_, '_>, number: usize, words: &mut Words) -> usize
+    ensures { ElementExported (view store.entry) number (list words) result }
 {
-    let of = element::summarize(records, children, text, used, number);
+    let of = store.summarize(number);
     answer::put_summary(words, of)
 }
 
 // A child of a node.
-pub fn notes_child(
-    records: &[u64],
-    children: &[u64],
-    text: &[u8],
-    used: &Counts,
-    number: usize,
-    index: usize,
-    words: &mut Words,
-) -> usize
-    requires { Valid (here records children text used) }
-    ensures { ChildExported (entered records children text used) number index (list words) result }
+pub fn notes_child(store: Store<'_, '_>, number: usize, index: usize, words: &mut Words) -> usize
+    ensures { ChildExported (view store.entry) number index (list words) result }
 {
-    let of = node::child_at(records, children, text, used, number, index);
+    let of = store.child_at(number, index);
     answer::put_child(words, of)
 }

@@ -1,20 +1,15 @@
 // Any question that one call answers, by its code.
 
-ghost use Rattle.green.specs.Store.{here, entered};
-ghost use Rattle.green.specs.Valid.{Valid};
+ghost use Rattle.green.specs.View.{view};
 ghost use Rattle.sheet_run.specs.RunDone.{list};
 ghost use Rattle.abi.specs.Codes.{coded_question};
 ghost use Rattle.notes_tree_ffi.specs.Exports.{QueryExported};
 
-use abi::question::Coded;
 use abi::{Words, answer, question};
-use green::Counts;
+use green::Store;
 
 pub fn notes_query(
-    records: &[u64],
-    children: &[u64],
-    text: &[u8],
-    used: &Counts,
+    store: Store<'_, '_>,
     root: usize,
     path: &mut [u32; 64],
     other: &mut [u32; 64],
@@ -23,15 +18,12 @@ pub fn notes_query(
     operands: &Words,
     words: &mut Words,
 ) -> usize
-    requires { Valid (here records children text used) }
-    ensures { QueryExported (entered records children text used) root depth (list path) (list other) (coded_question code operands.now) (list words) result }
+    ensures { QueryExported (view store.entry) root depth (list path) (list other) (coded_question code operands.now) (list words) result }
 {
     let coded = question::of_code(code, operands);
-    let Coded::Question(asked) = coded else {
+    let Some(asked) = coded else {
         return answer::UNKNOWN;
     };
-    let reply = query::query(
-        records, children, text, used, root, path, other, depth, asked,
-    );
+    let reply = query::query(store, root, path, other, depth, asked);
     answer::put_reply(words, reply)
 }

@@ -1,7 +1,6 @@
 // The calls that carry on a walk, or the chunks of a text, from a lent state that they leave for the next one.
 
-ghost use Rattle.green.specs.Store.{here, entered};
-ghost use Rattle.green.specs.Valid.{Valid};
+ghost use Rattle.green.specs.View.{view};
 ghost use Rattle.syntax_text_chunks.specs.Chunks.{ChunkKept};
 ghost use Rattle.sheet_run.specs.RunDone.{list};
 ghost use Rattle.abi.specs.Codes.{flag};
@@ -9,7 +8,7 @@ ghost use Rattle.abi.specs.WalkWords.{WalkInWords};
 ghost use Rattle.notes_tree_ffi.specs.Exports.{WalkBegins, WalkSteps, WalkSkips, WalkGives, chunk_given, chunk_kept, ChunkGives};
 
 use abi::{Words, answer, walk as words_of_walk};
-use green::Counts;
+use green::Store;
 use preorder::walk as preorder_walk;
 use preorder_many::walk as many;
 use syntax_text_chunks::chunks;
@@ -21,21 +20,17 @@ fn show_path(_path: &[u32]) {}
 
 // A new walk of the node that a path names. A refused one leaves the words as they were.
 pub fn notes_walk_begin(
-    records: &[u64],
-    children: &[u64],
-    text: &[u8],
-    used: &Counts,
+    store: Store<'_, '_>,
     root: usize,
     with_tokens: usize,
     path: &[u32; 64],
     depth: usize,
     walk: &mut Words,
 ) -> usize
-    requires { Valid (here records children text used) }
-    ensures { WalkBegins (entered records children text used) root (flag with_tokens) depth path.now (list walk) result }
+    ensures { WalkBegins (view store.entry) root (flag with_tokens) depth path.now (list walk) result }
 {
     show(walk);
-    let moved = preorder_walk::begin(records, children, text, used, root, path, depth);
+    let moved = preorder_walk::begin(store, root, path, depth);
     let tokens = words_of_walk::flag(with_tokens);
     words_of_walk::begin(walk, root, tokens, moved);
     answer::moved(moved)
@@ -43,23 +38,18 @@ pub fn notes_walk_begin(
 
 // The next event; its element is at the indexes that the path held before the call.
 pub fn notes_walk_next(
-    records: &[u64],
-    children: &[u64],
-    text: &[u8],
-    used: &Counts,
+    store: Store<'_, '_>,
     walk: &mut Words,
     path: &mut [u32; 64],
     words: &mut Words,
 ) -> usize
-    requires { Valid (here records children text used) × WalkInWords walk.old }
-    ensures { WalkSteps (entered records children text used) (list walk) (list path) (list words) result }
+    requires { WalkInWords walk.old }
+    ensures { WalkSteps (view store.entry) (list walk) (list path) (list words) result }
 {
     show(walk);
     let coming = words_of_walk::coming(walk);
     let tokens = words_of_walk::with_tokens(walk);
-    let step = preorder_walk::next(
-        records, children, text, used, walk[3], tokens, walk[2], path, walk[1], coming,
-    );
+    let step = preorder_walk::next(store, walk[3], tokens, walk[2], path, walk[1], coming);
     show_path(path);
     let then = step.coming;
     words_of_walk::move_on(walk, then, step.depth);
@@ -81,23 +71,20 @@ pub fn notes_walk_skip(walk: &mut Words) -> usize
 
 // As many calls of next as there is place for.
 pub fn notes_walk_many(
-    records: &[u64],
-    children: &[u64],
-    text: &[u8],
-    used: &Counts,
+    store: Store<'_, '_>,
     walk: &mut Words,
     path: &mut [u32; 64],
     events: &mut [u64],
     words: &mut Words,
 ) -> usize
-    requires { Valid (here records children text used) × WalkInWords walk.old }
-    ensures { WalkGives (entered records children text used) (list walk) (list path) (list events) (list words) result }
+    requires { WalkInWords walk.old }
+    ensures { WalkGives (view store.entry) (list walk) (list path) (list events) (list words) result }
 {
     show(walk);
     let coming = words_of_walk::coming(walk);
     let tokens = words_of_walk::with_tokens(walk);
     let given = many::next_many(
-        records, children, text, used, walk[3], tokens, walk[2], path, walk[1], coming, events,
+        store, walk[3], tokens, walk[2], path, walk[1], coming, events,
     );
     let then = given.coming;
     words_of_walk::move_on(walk, then, given.depth);
@@ -107,10 +94,7 @@ pub fn notes_walk_many(
 
 // The next chunk of a text: where it lies in the store's text.
 pub fn notes_next_chunk(
-    records: &[u64],
-    children: &[u64],
-    text: &[u8],
-    used: &Counts,
+    store: Store<'_, '_>,
     root: usize,
     path: &[u32; 64],
     depth: usize,
@@ -120,19 +104,15 @@ pub fn notes_next_chunk(
     place: &mut [u32; 64],
     words: &mut Words,
 ) -> usize
-    requires valid { Valid (here records children text used) }
-    requires chunk_kept { ChunkKept (here records children text used) root depth path.now start end (chunk_given state.old) place.old (chunk_kept state.old) }
-    ensures { ChunkGives (entered records children text used) root depth path.now start end (list state) (list place) text.now (list words) result }
+    requires { ChunkKept (view store) root depth path.now start end (chunk_given state.old) place.old (chunk_kept state.old) }
+    ensures { ChunkGives (view store.entry) root depth path.now start end (list state) (list place) (view store.entry).text (list words) result }
 {
     show(state);
     let mut given = state[0];
     let mut kept = state[1];
     let mut outcome: usize = 0;
     let part = chunks::next_part(
-        records,
-        children,
-        text,
-        used,
+        store,
         root,
         path,
         depth,

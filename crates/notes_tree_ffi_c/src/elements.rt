@@ -6,31 +6,40 @@ ghost use Rattle.sheet_run.specs.RunDone.{list};
 ghost use Rattle.notes_tree_ffi.specs.Exports.{ElementExported, ChildExported};
 
 use abi::Words;
-use green::Counts;
+use green::{Counts, Store};
 
 // What a record keeps of its element.
 #[unsafe(no_mangle)]
-pub extern "C" fn notes_element(
-    records: &[u64],
-    children: &[u64],
-    text: &[u8],
-    used: &Counts,
+pub extern "C" fn notes_element<'a>(
+    records: &'a [u64],
+    children: &'a [u64],
+    text: &'a [u8],
+    used: &'a Counts,
     number: usize,
     words: &mut Words,
 ) -> usize
     requires { Valid (here records children text used) }
     ensures { ElementExported (entered records children text used) number (list words) result }
 {
-    notes_tree_ffi::elements::notes_element(records, children, text, used, number, words)
+    notes_tree_ffi::elements::notes_element(
+        Store {
+            records,
+            children,
+            text,
+            used,
+        },
+        number,
+        words,
+    )
 }
 
 // A child of a node.
 #[unsafe(no_mangle)]
-pub extern "C" fn notes_child(
-    records: &[u64],
-    children: &[u64],
-    text: &[u8],
-    used: &Counts,
+pub extern "C" fn notes_child<'a>(
+    records: &'a [u64],
+    children: &'a [u64],
+    text: &'a [u8],
+    used: &'a Counts,
     number: usize,
     index: usize,
     words: &mut Words,
@@ -38,5 +47,15 @@ pub extern "C" fn notes_child(
     requires { Valid (here records children text used) }
     ensures { ChildExported (entered records children text used) number index (list words) result }
 {
-    notes_tree_ffi::elements::notes_child(records, children, text, used, number, index, words)
+    notes_tree_ffi::elements::notes_child(
+        Store {
+            records,
+            children,
+            text,
+            used,
+        },
+        number,
+        index,
+        words,
+    )
 }

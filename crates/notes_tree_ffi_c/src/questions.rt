@@ -7,14 +7,14 @@ ghost use Rattle.abi.specs.Codes.{coded_question};
 ghost use Rattle.notes_tree_ffi.specs.Exports.{QueryExported};
 
 use abi::Words;
-use green::Counts;
+use green::{Counts, Store};
 
 #[unsafe(no_mangle)]
-pub extern "C" fn notes_query(
-    records: &[u64],
-    children: &[u64],
-    text: &[u8],
-    used: &Counts,
+pub extern "C" fn notes_query<'a>(
+    records: &'a [u64],
+    children: &'a [u64],
+    text: &'a [u8],
+    used: &'a Counts,
     root: usize,
     path: &mut [u32; 64],
     other: &mut [u32; 64],
@@ -27,6 +27,18 @@ pub extern "C" fn notes_query(
     ensures { QueryExported (entered records children text used) root depth (list path) (list other) (coded_question code operands.now) (list words) result }
 {
     notes_tree_ffi::questions::notes_query(
-        records, children, text, used, root, path, other, depth, code, operands, words,
+        Store {
+            records,
+            children,
+            text,
+            used,
+        },
+        root,
+        path,
+        other,
+        depth,
+        code,
+        operands,
+        words,
     )
 }

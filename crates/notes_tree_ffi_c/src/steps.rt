@@ -9,15 +9,15 @@ ghost use Rattle.abi.specs.WalkWords.{WalkInWords};
 ghost use Rattle.notes_tree_ffi.specs.Exports.{WalkBegins, WalkSteps, WalkSkips, WalkGives, chunk_given, chunk_kept, ChunkGives};
 
 use abi::Words;
-use green::Counts;
+use green::{Counts, Store};
 
 // A new walk of the node that a path names. A refused one leaves the words as they were.
 #[unsafe(no_mangle)]
-pub extern "C" fn notes_walk_begin(
-    records: &[u64],
-    children: &[u64],
-    text: &[u8],
-    used: &Counts,
+pub extern "C" fn notes_walk_begin<'a>(
+    records: &'a [u64],
+    children: &'a [u64],
+    text: &'a [u8],
+    used: &'a Counts,
     root: usize,
     with_tokens: usize,
     path: &[u32; 64],
@@ -28,10 +28,12 @@ pub extern "C" fn notes_walk_begin(
     ensures { WalkBegins (entered records children text used) root (flag with_tokens) depth path.now (list walk) result }
 {
     notes_tree_ffi::steps::notes_walk_begin(
-        records,
-        children,
-        text,
-        used,
+        Store {
+            records,
+            children,
+            text,
+            used,
+        },
         root,
         with_tokens,
         path,
@@ -42,11 +44,11 @@ pub extern "C" fn notes_walk_begin(
 
 // The next event; its element is at the indexes that the path held before the call.
 #[unsafe(no_mangle)]
-pub extern "C" fn notes_walk_next(
-    records: &[u64],
-    children: &[u64],
-    text: &[u8],
-    used: &Counts,
+pub extern "C" fn notes_walk_next<'a>(
+    records: &'a [u64],
+    children: &'a [u64],
+    text: &'a [u8],
+    used: &'a Counts,
     walk: &mut Words,
     path: &mut [u32; 64],
     words: &mut Words,
@@ -54,7 +56,17 @@ pub extern "C" fn notes_walk_next(
     requires { Valid (here records children text used) × WalkInWords walk.old }
     ensures { WalkSteps (entered records children text used) (list walk) (list path) (list words) result }
 {
-    notes_tree_ffi::steps::notes_walk_next(records, children, text, used, walk, path, words)
+    notes_tree_ffi::steps::notes_walk_next(
+        Store {
+            records,
+            children,
+            text,
+            used,
+        },
+        walk,
+        path,
+        words,
+    )
 }
 
 // A coming Enter becomes Leave of that element's parent.
@@ -68,11 +80,11 @@ pub extern "C" fn notes_walk_skip(walk: &mut Words) -> usize
 
 // As many calls of next as there is place for.
 #[unsafe(no_mangle)]
-pub extern "C" fn notes_walk_many(
-    records: &[u64],
-    children: &[u64],
-    text: &[u8],
-    used: &Counts,
+pub extern "C" fn notes_walk_many<'a>(
+    records: &'a [u64],
+    children: &'a [u64],
+    text: &'a [u8],
+    used: &'a Counts,
     walk: &mut Words,
     path: &mut [u32; 64],
     events: &mut [u64],
@@ -81,16 +93,27 @@ pub extern "C" fn notes_walk_many(
     requires { Valid (here records children text used) × WalkInWords walk.old }
     ensures { WalkGives (entered records children text used) (list walk) (list path) (list events) (list words) result }
 {
-    notes_tree_ffi::steps::notes_walk_many(records, children, text, used, walk, path, events, words)
+    notes_tree_ffi::steps::notes_walk_many(
+        Store {
+            records,
+            children,
+            text,
+            used,
+        },
+        walk,
+        path,
+        events,
+        words,
+    )
 }
 
 // The next chunk of a text: where it lies in the store's text.
 #[unsafe(no_mangle)]
-pub extern "C" fn notes_next_chunk(
-    records: &[u64],
-    children: &[u64],
-    text: &[u8],
-    used: &Counts,
+pub extern "C" fn notes_next_chunk<'a>(
+    records: &'a [u64],
+    children: &'a [u64],
+    text: &'a [u8],
+    used: &'a Counts,
     root: usize,
     path: &[u32; 64],
     depth: usize,
@@ -105,6 +128,19 @@ pub extern "C" fn notes_next_chunk(
     ensures { ChunkGives (entered records children text used) root depth path.now start end (list state) (list place) text.now (list words) result }
 {
     notes_tree_ffi::steps::notes_next_chunk(
-        records, children, text, used, root, path, depth, start, end, state, place, words,
+        Store {
+            records,
+            children,
+            text,
+            used,
+        },
+        root,
+        path,
+        depth,
+        start,
+        end,
+        state,
+        place,
+        words,
     )
 }

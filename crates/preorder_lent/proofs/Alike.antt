@@ -12,9 +12,9 @@ use Rattle.definitions.specs.Preorder.{Walk}
 use Rattle.preorder.specs.Walks.{begin_of}
 use Rattle.preorder.proofs.Alike.{coming_same, ok≢refused, same_depth}
 use Rattle.preorder_lent.specs.declared.Preorder.{Preorder}
-use Rattle.preorder_lent.specs.declared.Outcome.{Outcome}
-use Rattle.preorder_lent.specs.declared.Outcome.TheVariants.{Done, Refused}
 use Rattle.preorder_lent.specs.Lent.{WalkValid, walk_in, outcome_as, lent_begun_as, OverIfRefused, LentWalkBegun}
+use Rattle.std.specs.Prelude.{Ok, Err}
+use Rattle.utility_types.specs.Numbers.{OrRefusal}
 
 ok_same : {v w : Walk} → ◌≡◌ {A = Result Walk} (ok v) (ok w) → v ≡ w
 ok_same e = cc
@@ -40,14 +40,14 @@ module _ (w w' : Preorder) (v : WalkValid w) (v' : WalkValid w') (l : List ℕ) 
     path = p ∙ sym p';
   }
 
-  begun_same : (tokens : Bool) (a a' : Outcome) → lent_begun_as w a ≡ lent_begun_as w' a' → OverIfRefused tokens w a → OverIfRefused tokens w' a' → (outcome_as a ≡ outcome_as a') × SameState w w'
-  begun_same tokens Done Done e o o' = (refl, same_walk (ok_same e))
-  begun_same tokens Done (Refused x) e o o' = absurd (ok≢refused e)
-  begun_same tokens (Refused x) Done e o o' = absurd (ok≢refused (sym e))
-  begun_same tokens (Refused x) (Refused y) e o o' = (ap refused (refused_same e), same_walk (o ∙ sym o'))
+  begun_same : (tokens : Bool) (a a' : OrRefusal (Unit {0})) → lent_begun_as w a ≡ lent_begun_as w' a' → OverIfRefused tokens w a → OverIfRefused tokens w' a' → (outcome_as a ≡ outcome_as a') × SameState w w'
+  begun_same tokens (Ok x) (Ok y) e o o' = (refl, same_walk (ok_same e))
+  begun_same tokens (Ok y) (Err x) e o o' = absurd (ok≢refused e)
+  begun_same tokens (Err x) (Ok y) e o o' = absurd (ok≢refused (sym e))
+  begun_same tokens (Err x) (Err y) e o o' = (ap refused (refused_same e), same_walk (o ∙ sym o'))
 
 -- THE CLAIM
 pub begun_alike : {es es' : List Entry} {r r' : ℕ} {tokens : Bool} {depth : ℕ} (l : List ℕ) → 64 ≤ length l → begin_of es r tokens depth l ≡ begin_of es' r' tokens depth l
-    → {w w' : Preorder} {a a' : Outcome} → LentWalkBegun es r tokens depth l w a → LentWalkBegun es' r' tokens depth l w' a' → (outcome_as a ≡ outcome_as a') × SameState w w'
+    → {w w' : Preorder} {a a' : OrRefusal (Unit {0})} → LentWalkBegun es r tokens depth l w a → LentWalkBegun es' r' tokens depth l w' a' → (outcome_as a ≡ outcome_as a') × SameState w w'
 begun_alike {tokens = tokens} l room e {w} {w'} {a} {a'} b b' =
     begun_same w w' b.valid b'.valid l room b.path b'.path tokens a a' (b.says ∙ e ∙ sym b'.says) b.over b'.over

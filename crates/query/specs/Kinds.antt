@@ -1,12 +1,11 @@
 -- The questions that are answered alike, and what is promised of each kind.
-use Rattle.std.specs.Prelude.{ℕ, ◌≡◌, List}
+use Rattle.std.specs.Prelude.{ℕ, ◌≡◌, List, Option as Optional}
 use Rattle.std.specs.Borrow.{Bor}
 use denote.Triple.Both.{Both}
 use Rattle.definitions.specs.Prelude.{Result}
 use Rattle.definitions.specs.Query as query
 use Rattle.green.specs.Store.{Store, entries, Lists}
 use Rattle.utility_types.specs.declared.Direction.TheVariants.{Next, Prev}
-use Rattle.cursor.specs.declared.position.Answer.{Answer}
 use Rattle.cursor.specs.Answers.{Tells}
 use Rattle.query.specs.declared.question.Question.{Question}
 use Rattle.query.specs.declared.question.Question.TheVariants as question
@@ -20,6 +19,8 @@ use Rattle.query.specs.declared.question.Kind.{Kind}
 use Rattle.query.specs.declared.question.Kind.TheVariants as kind
 use Rattle.query.specs.declared.reply.Reply.{Reply}
 use Rattle.query.specs.Answered.{told, question_of, Answered}
+use Rattle.utility_types.specs.Numbers.{OrRefusal}
+use Rattle.utility_types.specs.declared.SyntaxElement.{SyntaxElement}
 
 -- the question that each is
 abbrev pub element_in : ElementQuestion → Question
@@ -57,13 +58,13 @@ question_in (kind.Pair q) = pair_in q
 question_in (kind.WhereIs n) = question.WhereIs n
 
 -- x answers q, whatever the second path is
-pub record ElementAnswered (s : Store) (root depth : ℕ) (l : List ℕ) (q : Question) (l' : List ℕ) (x : Answer) : Type 0 where
+pub record ElementAnswered (s : Store) (root depth : ℕ) (l : List ℕ) (q : Question) (l' : List ℕ) (x : OrRefusal (Optional SyntaxElement)) : Type 0 where
   pub answer : Result query.Answer
   pub question : (m : List ℕ) → question_of (entries s) root depth l m q ≡ told answer
   pub tells : Tells l l' answer x
 
 -- the same from what an `ensures` has, and of a reply that changes no path
-abbrev pub AnswersElement : Store → ℕ → ℕ → Lists → Question → Answer → Type 0
+abbrev pub AnswersElement : Store → ℕ → ℕ → Lists → Question → OrRefusal (Optional SyntaxElement) → Type 0
 AnswersElement s root depth path q x = ElementAnswered s root depth path.entry.now q path.exit.now x
 
 abbrev pub RepliesText : {A : Type 0} → Store → ℕ → ℕ → Both (Bor (List ℕ)) A → Question → Reply → Type 0

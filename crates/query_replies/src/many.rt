@@ -1,87 +1,50 @@
-// Call 43: many steps of a walk at once, on one line. For this crate only: a slot is asked to be one of the four of walks.
+// Call 43: many steps of a walk at once, on one line.
 
-ghost use Rattle.std.specs.Prelude.{◌*◌, ◌≤◌, ◌<◌, length};
-ghost use Rattle.green.specs.Store.{here};
-ghost use Rattle.green.specs.Valid.{Valid};
+ghost use Rattle.green.specs.View.{view};
 
-use files::out::Buffer;
-use green::Counts;
+use files::out::Output;
+use green::Store;
 use preorder_many::state::Given;
 use preorder_many::walk;
-use questions::slots::Slots;
-use questions::{slots, walk as kept};
+use questions::walk::Walk;
 use replies::many;
-use utility_types::number;
+use replies::many::Steps;
 
-// As many steps of the walk in a slot as are asked for, unless it is over.
-fn step_many(
-    records: &[u64],
-    children: &[u64],
-    text: &[u8],
-    used: &Counts,
-    slots: &mut Slots,
-    slot: usize,
-    events: &mut [u64],
-    asked: usize,
-) -> Given
-    requires { Valid (here records children text used) × (slot < 4) × (7 * asked ≤ length events.old) }
-{
-    let it = kept::read(slots, slot);
-    let mut path = [0u32; 64];
-    slots::copy_out(slots, slot, &mut path);
+// As many steps of a walk as there are places for events of seven words, unless it is over.
+fn step_many(store: Store<'_, '_>, it: &mut Walk, events: &mut [u64]) -> Given {
     let coming = it.coming;
     let given = walk::next_many(
-        records,
-        children,
-        text,
-        used,
+        store,
         it.root,
         it.tokens,
         it.start,
-        &mut path,
+        &mut it.path,
         it.depth,
         coming,
-        &mut events[..7 * asked],
+        events,
     );
-    slots::copy_in(slots, slot, &path);
-    let then = given.coming;
-    kept::go_to(slots, slot, then, given.depth);
+    it.go_to(given.coming, given.depth);
     given
 }
 
-// The replies of `n` steps of the walk in a slot, up to and with the first that is no event.
-pub fn put(
-    out: &mut Buffer,
-    records: &[u64],
-    children: &[u64],
-    text: &[u8],
-    used: &Counts,
-    slots: &mut Slots,
-    slot: usize,
-    n: usize,
-)
-    requires { Valid (here records children text used) × (slot < 4) }
-{
-    let mut path = [0u32; 64];
-    slots::copy_out(slots, slot, &mut path);
+// The replies of `n` steps, up to and with the first that is no event.
+pub fn put(out: &mut Output, store: Store<'_, '_>, it: &mut Walk, n: usize) {
     let mut events = [0u64; 448];
-    let mut left = n;
-    while 0 < left {
-        let asked = number::lesser(left, 64);
-        let given = step_many(
-            records,
-            children,
-            text,
-            used,
-            slots,
-            slot,
-            &mut events,
-            asked,
-        );
-        many::put_events(out, &events, given.count, left == n, &mut path);
-        if !many::put_stop(out, left == n, asked, given) {
-            return;
+    for done in (0..n).step_by(64) {
+        let asked = (n - done).min(64);
+        let path = it.path;
+        let given = step_many(store, it, &mut events[..7 * asked]);
+        let last = many::last_of(given, asked);
+        out.put(Steps {
+            is_first: done == 0,
+            events: &events,
+            count: given.count,
+            path: &path,
+            last,
+        });
+        if last.is_some() {
+            break;
         }
-        left -= asked;
     }
+    out.put_line("");
 }

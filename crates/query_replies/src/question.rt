@@ -1,64 +1,66 @@
 // Calls 20 to 40, 50 to 52 and 55 to 58: what a call asks is read, put to the port, and its reply printed.
 
-ghost use Rattle.std.specs.Prelude.{◌<◌};
-ghost use Rattle.green.specs.Store.{here};
-ghost use Rattle.green.specs.Valid.{Valid};
+ghost use Rattle.green.specs.View.{view};
 
-use files::out;
-use files::out::Buffer;
-use green::Counts;
+use files::out::Output;
+use green::Store;
 use questions::asked::Asked;
 use questions::slots::Slots;
-use questions::{asked, path_calls, text_calls};
-use replies::line;
+use questions::{path_calls, text_calls};
+use replies::line::Replied;
 use script::call::Call;
+use script::fault::Fault;
+use script::op::Op;
 
-fn read(call: Call, slots: &mut Slots, path: &mut [u32; 64], other: &mut [u32; 64]) -> Asked
-    ensures { result.slot < 8 }
-{
-    let op = call.op;
+// What is asked, unless a text that it is asked of is not there.
+fn read(
+    call: &mut Call,
+    op: Op,
+    slots: &mut Slots,
+    path: &mut [u32; 64],
+    other: &mut [u32; 64],
+) -> Result<Option<Asked>, Fault> {
     match op {
-        20..=38 => path_calls::read(call, path, other),
-        40 => path_calls::read_walk(call, slots, path),
-        _ => text_calls::read(call, slots, path, other),
+        Op::WalkBegin => Ok(Some(path_calls::read_walk(call, slots, path)?)),
+        Op::TextOf
+        | Op::TextSlice
+        | Op::TextLength
+        | Op::TextContains
+        | Op::TextFind
+        | Op::TextCharAt
+        | Op::TextEqual => text_calls::read(call, op, slots, path, other),
+        _ => Ok(Some(path_calls::read(call, op, path, other)?)),
     }
 }
 
-// Whether the script goes on.
 pub fn answer(
-    call: Call,
-    out: &mut Buffer,
-    records: &[u64],
-    children: &[u64],
-    text: &[u8],
-    used: &Counts,
+    call: &mut Call,
+    op: Op,
+    out: &mut Output,
+    store: Store<'_, '_>,
     slots: &mut Slots,
-) -> bool
-    requires { Valid (here records children text used) }
-{
+) -> Result<(), Fault> {
     let mut path = [0u32; 64];
     let mut other = [0u32; 64];
-    let asked = read(call, slots, &mut path, &mut other);
-    if !asked.ok {
-        return false;
-    }
-    if !asked.is_there {
-        out::put(out, b"no text\n");
-        return true;
-    }
+    let Some(asked) = read(call, op, slots, &mut path, &mut other)? else {
+        out.put_line("no text");
+        return Ok(());
+    };
     let question = asked.question;
     let reply = query::query(
-        records,
-        children,
-        text,
-        used,
+        store,
         asked.root,
         &mut path,
         &mut other,
         asked.depth,
         question,
     );
-    asked::keep(slots, asked.slot, reply);
-    line::put_reply(out, call.op, reply, &path, &other);
-    true
+    asked.keep(slots, &path, reply);
+    out.put_line(Replied {
+        op,
+        reply,
+        path: &path,
+        other: &other,
+    });
+    Ok(())
 }

@@ -3,154 +3,102 @@
 ghost use Rattle.std.specs.Prelude.{◌≡◌, false};
 ghost use Rattle.definitions.specs.Tree.{is_node};
 ghost use Rattle.definitions.specs.Entry.{tree_at};
-ghost use Rattle.green.specs.Store.{here, entries};
-ghost use Rattle.green.specs.Valid.{Valid, Known};
+ghost use Rattle.green.specs.Store.{entries};
+ghost use Rattle.green.specs.View.{view};
+ghost use Rattle.green.specs.Valid.{Known};
 
-use files::out;
-use files::out::Buffer;
-use green::element::Summarized;
-use green::node::ChildAt;
-use green::{Counts, element, node, record, token};
-use replies::{bytes, show};
+use files::out::Output;
+use green::Store;
+use green::element::Summary;
+use replies::bytes::Bytes;
+use replies::show::{Kind, Mark, Shown};
 use script::call::Call;
-use script::words;
-use utility_types::{Refusal, SyntaxKind};
+use script::fault::Fault;
+use script::op::Op;
+use utility_types::Refusal;
 
 // Calls 60 and 61.
-fn put_kept(out: &mut Buffer, op: u32, of: Summarized) {
+fn put_kept(out: &mut Output, op: Op, of: Result<Summary, Refusal>) {
     match of {
-        Summarized::Of(it) => {
-            if op == 60 {
-                show::put_summary(out, it);
+        Ok(it) => {
+            if let Op::Mark = op {
+                out.put_line(Mark(it.hash));
             } else {
-                show::put_mark(out, it.hash);
+                out.put_line(Shown(it));
             }
         }
-        Summarized::Refused(why) => show::put_refused(out, why),
+        Err(why) => out.put_line(Shown(why)),
     }
 }
 
-fn put_token(
-    out: &mut Buffer,
-    records: &[u64],
-    children: &[u64],
-    text: &[u8],
-    used: &Counts,
-    n: usize,
-)
-    requires { Known (here records children text used) n × (is_node (tree_at (entries (here records children text used)) n) ≡ false) }
+fn put_token(out: &mut Output, store: Store<'_, '_>, n: usize)
+    requires { Known (view store) n × (is_node (tree_at (entries (view store)) n) ≡ false) }
 {
-    let kind = record::kind_of(records, children, text, used, n);
-    show::put_kind(out, false, kind);
-    bytes::put_bytes(out, token::text_of(records, children, text, used, n));
+    let kind = store.kind_of(n);
+    let kind = Kind {
+        is_node: false,
+        kind,
+    };
+    let text = Bytes(store.text_of(n));
+    out.put_line(format_args!("{kind} {text}"));
 }
 
 // The number of child `k` of a node.
-fn child_of(
-    records: &[u64],
-    children: &[u64],
-    text: &[u8],
-    used: &Counts,
-    n: usize,
-    k: usize,
-) -> usize
-    requires { Valid (here records children text used) }
-{
-    let child = node::child_at(records, children, text, used, n, k);
-    match child {
-        ChildAt::Found(it) => it.number,
-        _ => 0,
+fn child_of(store: Store<'_, '_>, n: usize, k: usize) -> usize {
+    match store.child_at(n, k) {
+        Ok(child) => child.number,
+        Err(_) => 0,
     }
 }
 
-fn put_children(
-    out: &mut Buffer,
-    records: &[u64],
-    children: &[u64],
-    text: &[u8],
-    used: &Counts,
-    n: usize,
-    count: usize,
-)
-    requires { Valid (here records children text used) }
-{
-    let mut k = 0;
-    while k < count {
-        let number = child_of(records, children, text, used, n, k);
-        show::put_number(out, number);
-        k += 1;
+fn put_children(out: &mut Output, store: Store<'_, '_>, n: usize, count: usize) {
+    for k in 0..count {
+        let number = child_of(store, n, k);
+        out.put(format_args!(" {number}"));
     }
+    out.put_line("");
 }
 
-// A node's kind, what made it, and how many children it has.
-fn put_head(out: &mut Buffer, kind: SyntaxKind, is_event: bool, count: usize) {
-    show::put_kind(out, true, kind);
-    if is_event {
-        out::put(out, b" event");
-    } else {
-        out::put(out, b" edit");
-    }
-    show::put_number(out, count);
-}
-
-fn put_node(
-    out: &mut Buffer,
-    records: &[u64],
-    children: &[u64],
-    text: &[u8],
-    used: &Counts,
-    n: usize,
-)
-    requires { Known (here records children text used) n }
+// A node's kind, what made it, and how many children it has; and these.
+fn put_node(out: &mut Output, store: Store<'_, '_>, n: usize)
+    requires { Known (view store) n }
 {
-    let kind = record::kind_of(records, children, text, used, n);
-    let is_event = record::tag_of(records, children, text, used, n) == 1;
-    let count = record::count_of(records, children, text, used, n);
-    put_head(out, kind, is_event, count);
-    put_children(out, records, children, text, used, n, count);
+    let kind = store.kind_of(n);
+    let is_event = store.tag_of(n) == 1;
+    let count = store.count_of(n);
+    let kind = Kind {
+        is_node: true,
+        kind,
+    };
+    let maker = if is_event { "event" } else { "edit" };
+    out.put(format_args!("{kind} {maker} {count}"));
+    put_children(out, store, n, count);
 }
 
 // Call 64.
-fn put_record(
-    out: &mut Buffer,
-    records: &[u64],
-    children: &[u64],
-    text: &[u8],
-    used: &Counts,
-    n: usize,
-)
-    requires { Valid (here records children text used) }
-{
-    if used[0] <= n {
-        show::put_refused(out, Refusal::NoSuchElement);
-    } else if record::is_node(records, children, text, used, n) {
-        put_node(out, records, children, text, used, n);
+fn put_record(out: &mut Output, store: Store<'_, '_>, n: usize) {
+    if store.used[0] <= n {
+        out.put_line(Shown(Refusal::NoSuchElement));
+    } else if store.is_node(n) {
+        put_node(out, store, n);
     } else {
-        put_token(out, records, children, text, used, n);
+        put_token(out, store, n);
     }
 }
 
-// The call's only word is a number. Whether the script goes on.
+// The call's only word is a number.
 pub fn answer(
-    call: Call,
-    out: &mut Buffer,
-    records: &[u64],
-    children: &[u64],
-    text: &[u8],
-    used: &Counts,
-) -> bool
-    requires { Valid (here records children text used) }
-{
-    let word = words::read_last_word(call, call.m);
-    if !word.ok {
-        return false;
-    }
-    if call.op == 64 {
-        put_record(out, records, children, text, used, word.value);
+    call: &mut Call,
+    op: Op,
+    out: &mut Output,
+    store: Store<'_, '_>,
+) -> Result<(), Fault> {
+    let number = call.last_word()? as usize;
+    if let Op::Record = op {
+        put_record(out, store, number);
     } else {
-        let of = element::summarize(records, children, text, used, word.value);
-        put_kept(out, call.op, of);
+        let of = store.summarize(number);
+        put_kept(out, op, of);
     }
-    out::put(out, b"\n");
-    true
+    Ok(())
 }

@@ -1,78 +1,75 @@
 // What a call asks of the port.
 
-ghost use Rattle.std.specs.Prelude.{◌<◌};
+ghost use Rattle.std.specs.Prelude.{◌≡◌};
+ghost use Rattle.questions.specs.Keep.{Keeps};
 
-use crate::slots::Slots;
-use crate::{text, walk};
+use crate::slots::{Slot, Slots};
+use crate::text::Text;
+use crate::walk::Walk;
 use query::question::Question;
 use query::reply::Reply;
 
-// Whether the call's words are there, and whether a text is in each slot that it reads; then a question, and the root and the
-// depth of the lent path that it is put to. A walk or a text that comes back is for `slot`.
+// Where a walk or a text that comes back is kept.
+#[derive(Clone, Copy)]
+pub enum Keeping {
+    Nowhere,
+    // and whether the walk counts tokens
+    Walk(Slot, bool),
+    Text(Slot),
+}
+
+// A question, and the root and the depth of the lent path that it is put to.
 #[derive(Clone, Copy)]
 pub struct Asked {
-    pub ok: bool,
-    pub is_there: bool,
     pub question: Question,
     pub root: usize,
     pub depth: usize,
-    pub slot: usize,
+    pub keeping: Keeping,
 }
 
-// The call is broken.
-pub fn nothing() -> Asked
-    ensures { result.slot < 8 }
-{
-    let question = Question::Here;
-    Asked {
-        ok: false,
-        is_there: false,
-        question,
-        root: 0,
-        depth: 0,
-        slot: 0,
-    }
-}
-
-// It asks for a text where there is none.
-pub fn no_text() -> Asked
-    ensures { result.slot < 8 }
-{
-    let question = Question::Here;
-    Asked {
-        ok: true,
-        is_there: false,
-        question,
-        root: 0,
-        depth: 0,
-        slot: 0,
-    }
-}
-
-pub fn ask(ok: bool, question: Question, root: usize, depth: usize, slot: usize) -> Asked
-    requires { slot < 8 }
-    ensures { result.slot < 8 }
-{
-    Asked {
-        ok,
-        is_there: true,
-        question,
-        root,
-        depth,
-        slot,
-    }
-}
-
-// A walk that begins, or a text, put into a slot that was emptied when the call was read; another reply leaves it empty.
-pub fn keep(slots: &mut Slots, slot: usize, reply: Reply)
-    requires { slot < 8 }
-{
-    match reply {
-        Reply::Text(from, to) => text::set_range(slots, slot, from, to),
-        Reply::Walk(ahead) => {
-            let coming = ahead.coming;
-            walk::go_to(slots, slot, coming, ahead.depth);
+impl Asked {
+    // A question whose reply is kept nowhere.
+    pub fn new(question: Question, root: usize, depth: usize) -> Asked
+        ensures asked { (result.question ≡ question) × (result.root ≡ root) × (result.depth ≡ depth) }
+        ensures keeping { result.keeping ≡ Keeping.Nowhere }
+    {
+        Asked {
+            question,
+            root,
+            depth,
+            keeping: Keeping::Nowhere,
         }
-        _ => {}
+    }
+
+    // Keeps a walk that begins, or a text, in the slot that was emptied when the call was read; another reply leaves it empty.
+    // No walk has more than 64 indexes.
+    pub fn keep(self, slots: &mut Slots, path: &[u32; 64], reply: Reply)
+        ensures { Keeps self.keeping slots.old slots.new }
+    {
+        match (self.keeping, reply) {
+            (Keeping::Walk(slot, tokens), Reply::Walk(ahead)) if ahead.depth <= 64 => {
+                let walk = Walk {
+                    root: self.root,
+                    tokens,
+                    start: self.depth,
+                    path: *path,
+                    coming: ahead.coming,
+                    depth: ahead.depth,
+                };
+                slots.set_walk(slot, Some(walk));
+            }
+            (Keeping::Text(slot), Reply::Text(start, end)) => {
+                let text = Text {
+                    root: self.root,
+                    path: *path,
+                    depth: self.depth,
+                    start,
+                    end,
+                    given: 0,
+                };
+                slots.set_text(slot, Some(text));
+            }
+            _ => {}
+        }
     }
 }

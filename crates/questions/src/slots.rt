@@ -1,51 +1,81 @@
-// The places of a script's slots, four walks and then four texts: eight words and a path of 64 indexes for each. A slot whose
-// first word is 0 is empty.
+// The slots of a script, four for walks and four for texts. A call's word says which one.
 
-ghost use Rattle.std.specs.Prelude.{◌^◌, ◌<◌};
+ghost use Rattle.std.specs.Prelude.{◌≡◌, ◌+◌, ◌<◌, None, Some, IfOk, slice_get, slice_set, take, replicate};
+ghost use Rattle.std.specs.Int.{w32, from_le_bytes};
 
-use utility_types::number;
+use crate::text::Text;
+use crate::walk::Walk;
+use script::call::Call;
+use script::fault::Fault;
 
-// New ones are all zeros.
-pub type Slots = [u32; 576];
-
-// A number of a slot. None of a script comes near to 32 bits: each is a word of it, or counts bytes, indexes or calls.
-pub fn narrow(x: usize) -> u32 {
-    if x < 4294967296 { x as u32 } else { 0 }
+// One of the four slots for walks, or of the four for texts.
+#[derive(Clone, Copy)]
+pub struct Slot {
+    number: usize,
+    ghost is_one: { number < 4 },
 }
 
-// Word `k` of a slot's eight.
-pub fn word(slots: &Slots, slot: usize, k: usize) -> usize
-    requires { (slot < 8) × (k < 8) }
-{
-    number::widen(slots[72 * slot + k])
-}
+impl Slot {
+    pub fn read(call: &mut Call) -> Result<Slot, Fault>
+        ensures value { IfOk result (λ slot. slot.number ≡ from_le_bytes w32 (take 4 call.old.rest.now)) }
+        ensures left { IfOk result (λ _. call.new.left + 1 ≡ call.old.left) }
+    {
+        let number = call.below(4)? as usize;
+        Ok(Slot { number })
+    }
 
-pub fn set_word(slots: &mut Slots, slot: usize, k: usize, value: usize)
-    requires { (slot < 8) × (k < 8) }
-{
-    slots[72 * slot + k] = narrow(value);
-}
-
-// A slot's path, put into a lent place.
-pub fn copy_out(slots: &Slots, slot: usize, path: &mut [u32; 64])
-    requires { slot < 8 }
-{
-    let from = 72 * slot + 8;
-    let mut i = 0;
-    while i < 64 {
-        path[i] = slots[from + i];
-        i += 1;
+    // The same of a call's last word.
+    pub fn read_last(call: &mut Call) -> Result<Slot, Fault>
+        ensures value { IfOk result (λ slot. slot.number ≡ from_le_bytes w32 (take 4 call.old.rest.now)) }
+        ensures last { IfOk result (λ _. call.old.left ≡ 1) }
+    {
+        let number = call.last_below(4)? as usize;
+        Ok(Slot { number })
     }
 }
 
-// A path, put into a slot's places.
-pub fn copy_in(slots: &mut Slots, slot: usize, path: &[u32; 64])
-    requires { slot < 8 }
-{
-    let to = 72 * slot + 8;
-    let mut i = 0;
-    while i < 64 {
-        slots[to + i] = path[i];
-        i += 1;
+// New ones are empty.
+#[derive(Clone, Copy)]
+pub struct Slots {
+    walks: [Option<Walk>; 4],
+    texts: [Option<Text>; 4],
+}
+
+impl Default for Slots {
+    fn default() -> Slots
+        ensures { (result.walks ≡ replicate 4 None) × (result.texts ≡ replicate 4 None) }
+    {
+        Slots {
+            walks: [None; 4],
+            texts: [None; 4],
+        }
+    }
+}
+
+impl Slots {
+    pub fn walk(&self, slot: Slot) -> Option<Walk>
+        ensures { slice_get self.now.walks slot.number ≡ Some result }
+    {
+        self.walks[slot.number]
+    }
+
+    pub fn set_walk(&mut self, slot: Slot, walk: Option<Walk>)
+        ensures set { self.new.walks ≡ slice_set self.old.walks slot.number walk }
+        ensures kept { self.new.texts ≡ self.old.texts }
+    {
+        self.walks[slot.number] = walk;
+    }
+
+    pub fn text(&self, slot: Slot) -> Option<Text>
+        ensures { slice_get self.now.texts slot.number ≡ Some result }
+    {
+        self.texts[slot.number]
+    }
+
+    pub fn set_text(&mut self, slot: Slot, text: Option<Text>)
+        ensures set { self.new.texts ≡ slice_set self.old.texts slot.number text }
+        ensures kept { self.new.walks ≡ self.old.walks }
+    {
+        self.texts[slot.number] = text;
     }
 }

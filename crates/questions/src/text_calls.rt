@@ -1,161 +1,120 @@
-// Calls 50 to 52 and 55 to 58: what is asked of a node's text, or of texts in slots.
+// Calls 50 to 52 and 55 to 58: what is asked of a node's text, or of texts in slots. Where there is no text in a slot that a call
+// reads, nothing is asked.
 
-ghost use Rattle.std.specs.Prelude.{◌^◌, ◌<◌};
-
-use crate::asked::Asked;
-use crate::slots::Slots;
-use crate::{asked, slots, text};
+use crate::asked::{Asked, Keeping};
+use crate::slots::{Slot, Slots};
+use crate::text::Text;
 use query::question::Question;
 use script::call::Call;
-use script::words::Taken;
-use script::{path, words};
-use utility_types::number;
+use script::fault::Fault;
+use script::op::Op;
 
-// Call 50: a slot and a path. The path is put into the slot, which is empty until the text is known.
-fn of_node(call: Call, slots: &mut Slots, path: &mut [u32; 64]) -> Asked
-    ensures { result.slot < 8 }
-{
-    let to = words::take_below(call, call.m, 4);
-    if !to.ok {
-        return asked::nothing();
-    }
-    let slot = to.value + 4;
-    let of = path::read_last_path(call, path, to.left);
-    text::set(slots, slot, of.root, of.depth);
-    slots::copy_in(slots, slot, path);
-    asked::ask(of.ok, Question::Text, of.root, of.depth, slot)
+// Call 50: a slot and a path. The slot is empty until the text is known.
+fn of_node(call: &mut Call, slots: &mut Slots, path: &mut [u32; 64]) -> Result<Asked, Fault> {
+    let slot = Slot::read(call)?;
+    let of = call.last_path(path)?;
+    slots.set_text(slot, None);
+    Ok(Asked {
+        question: Question::Text,
+        root: of.root,
+        depth: of.depth,
+        keeping: Keeping::Text(slot),
+    })
 }
 
-// The slice between two offsets of the text in slot `of`, for slot `to`, which is empty until it is known.
-fn slice_of(slots: &mut Slots, path: &mut [u32; 64], to: usize, of: usize, ends: [u32; 2]) -> Asked
-    requires { (to < 8) × (of < 8) }
-    ensures { result.slot < 8 }
-{
-    let it = text::read(slots, of);
-    slots::copy_out(slots, of, path);
-    text::set(slots, to, it.root, it.depth);
-    slots::copy_in(slots, to, path);
-    if !it.is_there {
-        return asked::no_text();
-    }
-    let from = number::widen(ends[0]);
-    let until = number::widen(ends[1]);
-    let question = Question::Slice(it.start, it.end, from, until);
-    asked::ask(true, question, it.root, it.depth, to)
-}
-
-// Call 51: two slots, a start and an end.
-fn slice(call: Call, slots: &mut Slots, path: &mut [u32; 64]) -> Asked
-    ensures { result.slot < 8 }
-{
-    let to = words::take_below(call, call.m, 4);
-    if !to.ok {
-        return asked::nothing();
-    }
-    let of = words::take_below(call, to.left, 4);
-    if !of.ok || !words::has_words(call, of.left, 2) {
-        return asked::nothing();
-    }
-    let mut ends = [0u32; 2];
-    if !words::read_words(call, &mut ends, 2) {
-        return asked::nothing();
-    }
-    slice_of(slots, path, to.value + 4, of.value + 4, ends)
+// Call 51: two slots, a start and an end. The first slot is empty until the slice is known; it may be the second one, too.
+fn slice(call: &mut Call, slots: &mut Slots, path: &mut [u32; 64]) -> Result<Option<Asked>, Fault> {
+    let to = Slot::read(call)?;
+    let of = Slot::read(call)?;
+    call.exactly(2)?;
+    let from = call.word()? as usize;
+    let until = call.word()? as usize;
+    let text = slots.text(of);
+    slots.set_text(to, None);
+    Ok(text.map(|text| {
+        path.copy_from_slice(&text.path);
+        Asked {
+            question: Question::Slice(text.start, text.end, from, until),
+            root: text.root,
+            depth: text.depth,
+            keeping: Keeping::Text(to),
+        }
+    }))
 }
 
 // What comes after the slot: nothing, a byte or an offset.
-fn read_argument(call: Call, m: usize) -> Taken
-    ensures { result.value < 2 ^ 32 }
-{
-    let op = call.op;
+fn read_argument(call: &mut Call, op: Op) -> Result<u32, Fault> {
     match op {
-        52 => Taken {
-            ok: true,
-            value: 0,
-            left: m,
-        },
-        57 => words::take_word(call, m),
-        _ => words::take_below(call, m, 256),
+        Op::TextLength => Ok(0),
+        Op::TextCharAt => call.word(),
+        _ => call.below(256),
     }
 }
 
-fn question_of(op: u32, start: usize, end: usize, x: usize) -> Question
-    requires { x < 2 ^ 32 }
-{
+fn question_of(op: Op, text: Text, argument: u32) -> Question {
+    let Text { start, end, .. } = text;
     match op {
-        52 => Question::TextLen(start, end),
-        55 => Question::Contains(start, end, x as u32),
-        56 => Question::Find(start, end, x as u32),
-        _ => Question::CharAt(start, end, x),
+        Op::TextLength => Question::TextLen(start, end),
+        Op::TextContains => Question::Contains(start, end, argument),
+        Op::TextFind => Question::Find(start, end, argument),
+        _ => Question::CharAt(start, end, argument as usize),
     }
 }
 
 // Calls 52 and 55 to 57: a slot, and at most one word.
-fn of_slot(call: Call, slots: &Slots, path: &mut [u32; 64]) -> Asked
-    ensures { result.slot < 8 }
-{
-    let of = words::take_below(call, call.m, 4);
-    if !of.ok {
-        return asked::nothing();
-    }
-    let word = read_argument(call, of.left);
-    if !word.ok || !words::has_words(call, word.left, 0) {
-        return asked::nothing();
-    }
-    let it = text::read(slots, of.value + 4);
-    if !it.is_there {
-        return asked::no_text();
-    }
-    slots::copy_out(slots, of.value + 4, path);
-    let question = question_of(call.op, it.start, it.end, word.value);
-    asked::ask(true, question, it.root, it.depth, 0)
-}
-
-// Whether the texts in two slots are equal.
-fn equal(
+fn of_slot(
+    call: &mut Call,
+    op: Op,
     slots: &Slots,
     path: &mut [u32; 64],
-    other: &mut [u32; 64],
-    one: usize,
-    two: usize,
-) -> Asked
-    requires { (one < 8) × (two < 8) }
-    ensures { result.slot < 8 }
-{
-    slots::copy_out(slots, one, path);
-    slots::copy_out(slots, two, other);
-    let it = text::read(slots, one);
-    let its = text::read(slots, two);
-    if !it.is_there || !its.is_there {
-        return asked::no_text();
-    }
-    let question = Question::EqualText(it.start, it.end, its.root, its.depth, its.start, its.end);
-    asked::ask(true, question, it.root, it.depth, 0)
+) -> Result<Option<Asked>, Fault> {
+    let of = Slot::read(call)?;
+    let argument = read_argument(call, op)?;
+    call.exactly(0)?;
+    Ok(
+        slots.text(of).map(|text| {
+            path.copy_from_slice(&text.path);
+            Asked::new(question_of(op, text, argument), text.root, text.depth)
+        }),
+    )
+}
+
+// Whether the text `one` is equal to `two`.
+fn equal(one: Text, two: Text) -> Asked {
+    let question = Question::EqualText(one.start, one.end, two.root, two.depth, two.start, two.end);
+    Asked::new(question, one.root, one.depth)
 }
 
 // Call 58: two slots.
-fn of_slots(call: Call, slots: &Slots, path: &mut [u32; 64], other: &mut [u32; 64]) -> Asked
-    ensures { result.slot < 8 }
-{
-    let one = words::take_below(call, call.m, 4);
-    if !one.ok {
-        return asked::nothing();
-    }
-    let two = words::read_last_below(call, one.left, 4);
-    if !two.ok {
-        return asked::nothing();
-    }
-    equal(slots, path, other, one.value + 4, two.value + 4)
+fn of_slots(
+    call: &mut Call,
+    slots: &Slots,
+    path: &mut [u32; 64],
+    other: &mut [u32; 64],
+) -> Result<Option<Asked>, Fault> {
+    let one = Slot::read(call)?;
+    let two = Slot::read_last(call)?;
+    Ok(
+        slots.text(one).zip(slots.text(two)).map(|(one, two)| {
+            path.copy_from_slice(&one.path);
+            other.copy_from_slice(&two.path);
+            equal(one, two)
+        }),
+    )
 }
 
-pub fn read(call: Call, slots: &mut Slots, path: &mut [u32; 64], other: &mut [u32; 64]) -> Asked
-    ensures { result.slot < 8 }
-{
-    let op = call.op;
+// The question that a call asks, if there is a text in each slot that it reads.
+pub fn read(
+    call: &mut Call,
+    op: Op,
+    slots: &mut Slots,
+    path: &mut [u32; 64],
+    other: &mut [u32; 64],
+) -> Result<Option<Asked>, Fault> {
     match op {
-        50 => of_node(call, slots, path),
-        51 => slice(call, slots, path),
-        58 => of_slots(call, slots, path, other),
-        _ => of_slot(call, slots, path),
+        Op::TextOf => Ok(Some(of_node(call, slots, path)?)),
+        Op::TextSlice => slice(call, slots, path),
+        Op::TextEqual => of_slots(call, slots, path, other),
+        _ => of_slot(call, op, slots, path),
     }
 }

@@ -1,138 +1,112 @@
 // The calls on one store.
 
-ghost use Rattle.std.specs.Prelude.{◌≡◌, ◌<◌, true, false};
+ghost use Rattle.std.specs.Prelude.{◌<◌, ◌≤◌, IfOk, IfSome};
 ghost use Rattle.green.specs.Store.{store};
 ghost use Rattle.green.specs.Valid.{Valid};
 
-use files::out;
-use files::out::Buffer;
+use crate::turns::Turns;
+use files::out::Output;
 use green::Counts;
 use questions::slots::Slots;
-use script::call::{Call, Script};
+use script::call::Call;
+use script::calls::MOST;
+use script::fault::{Complaint, Fault};
+use script::op::Op;
 use script::store::Store;
-use script::{call, store, words};
-use std::num::wrapping_add_usize;
-use utility_types::number;
-
-// Why a store's calls are over: the script asks for another store, or nothing more can be read of it. The next call's
-// ordinal, and how many words of the longest script are left.
-#[derive(Clone, Copy)]
-pub struct After {
-    pub more: bool,
-    pub store: Store,
-    pub ordinal: usize,
-    pub left: usize,
-}
-
-fn over() -> After
-    ensures { result.more ≡ false }
-{
-    After {
-        more: false,
-        store: store::first_store(),
-        ordinal: 0,
-        left: 0,
-    }
-}
 
 // Call 1: the store that comes next.
-fn next_store(call: Call, out: &mut Buffer, left: usize) -> After
-    ensures { result.more ≡ true → result.left ≡ left }
-{
-    if !words::has_words(call, call.m, 3) {
-        return over();
-    }
-    let asked = store::read_store(call);
-    if !asked.ok {
-        return over();
-    }
-    out::put(out, b"ok\n");
-    let store = asked.store;
-    After {
-        more: true,
-        store,
-        ordinal: wrapping_add_usize(call.ordinal, 1),
-        left,
-    }
+fn next_store(call: &mut Call, out: &mut Output) -> Result<Store, Fault> {
+    let store = Store::read(call)?;
+    out.put_line("ok");
+    Ok(store)
 }
 
-// Any other call on a store. Whether the script goes on.
+// Any other call on a store.
 fn answer(
-    call: Call,
-    out: &mut Buffer,
+    call: &mut Call,
+    out: &mut Output,
     records: &mut [u64],
     children: &mut [u64],
     text: &mut [u8],
     used: &mut Counts,
     slots: &mut Slots,
-) -> bool
+) -> Result<(), Fault>
     requires { Valid (store records.old children.old text.old used.old) }
     ensures { Valid (store records.new children.new text.new used.new) }
 {
-    let op = call.op;
-    match op {
-        2 | 3 | 10..=14 => edit_replies::answer(call, out, records, children, text, used),
-        _ => query_replies::answer(call, out, records, children, text, used, slots),
+    match call.op {
+        Some(
+            op @ (Op::Run
+            | Op::RunEvents
+            | Op::ReplaceChild
+            | Op::InsertChild
+            | Op::RemoveChild
+            | Op::SpliceChildren
+            | Op::ReplaceWith),
+        ) => edit_replies::answer(call, op, out, records, children, text, used),
+        _ => {
+            let lent = green::Store {
+                records,
+                children,
+                text,
+                used,
+            };
+            query_replies::answer(call, out, lent, slots)
+        }
     }
 }
 
-// The calls up to the next store, from an empty one with empty slots, from the call of that ordinal on. `words` of the
-// longest script are left.
+// The calls on a store that is empty at first, as its slots are, up to the call that asks for the next one. That store, unless the
+// script is over.
 fn answer_all(
-    script: Script,
-    out: &mut Buffer,
+    turns: &mut Turns,
+    words: &mut [u8; MOST],
+    out: &mut Output,
     records: &mut [u64],
     children: &mut [u64],
     text: &mut [u8],
-    first: usize,
-    words: usize,
-) -> After
-    ensures { result.more ≡ true → result.left < words }
+) -> Result<Option<Store>, Complaint>
+    ensures later { IfOk result (λ next. IfSome next (λ _. turns.old.next.byte < turns.new.next.byte)) }
+    ensures most { IfOk result (λ next. IfSome next (λ _. turns.new.next.byte ≤ 1000000)) }
 {
     let mut used = [0usize; 8];
-    let mut slots = [0u32; 576];
-    let mut ordinal = first;
-    let mut left = words;
-    loop {
-        let head = call::read_head(script, ordinal, left);
-        if !head.more {
-            return over();
+    let mut slots = Slots::default();
+    while let Some(mut call) = turns.next_call(words)? {
+        let place = call.place;
+        let complain = |fault| Complaint { place, fault };
+        if let Some(Op::Store) = call.op {
+            return next_store(&mut call, out).map(Some).map_err(complain);
         }
-        left = head.left;
-        ordinal = wrapping_add_usize(ordinal, 1);
-        let call = head.call;
-        if call.op == 1 {
-            return next_store(call, out, left);
-        }
-        if !answer(call, out, records, children, text, &mut used, &mut slots) {
-            return over();
-        }
+        answer(
+            &mut call, out, records, children, text, &mut used, &mut slots,
+        )
+        .map_err(complain)?;
     }
+    Ok(None)
 }
 
 // The same in as many of the places as the script asks for and there are.
 pub fn on_store(
-    script: Script,
-    out: &mut Buffer,
+    turns: &mut Turns,
+    words: &mut [u8; MOST],
+    out: &mut Output,
     records: &mut [u64],
     children: &mut [u64],
     text: &mut [u8],
     asked: Store,
-    first: usize,
-    words: usize,
-) -> After
-    ensures { result.more ≡ true → result.left < words }
+) -> Result<Option<Store>, Complaint>
+    ensures later { IfOk result (λ next. IfSome next (λ _. turns.old.next.byte < turns.new.next.byte)) }
+    ensures most { IfOk result (λ next. IfSome next (λ _. turns.new.next.byte ≤ 1000000)) }
 {
-    let r = number::lesser(asked.records, records.len() / 8);
-    let c = number::lesser(asked.children, children.len());
-    let t = number::lesser(asked.text, text.len());
+    let r = asked.records.min(records.len() / 8);
+    let c = asked.children.min(children.len());
+    let t = asked.text.min(text.len());
     answer_all(
-        script,
+        turns,
+        words,
         out,
         &mut records[..8 * r],
         &mut children[..c],
         &mut text[..t],
-        first,
-        words,
     )
 }

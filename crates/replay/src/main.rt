@@ -1,96 +1,90 @@
 // The program `replay`: puts the calls of a script (docs/REPLAY.md) to the port, and prints the replies. Here the file and
-// the script's stores, in `calls` the calls on one store.
+// the script's stores, in `turns` how its calls are read, in `calls` the calls on one store.
 
 #![tactic(auto)]
 
 mod calls;
+mod turns;
 
-use files::out::Buffer;
-use files::{arguments, out};
-use script::call::Script;
-use script::{call, store};
+use files::arguments;
+use files::out::Output;
+use script::calls::MOST;
+use script::fault::{Complaint, Fault};
+use script::store::Store;
+use std::fs::File;
+use std::io;
+use turns::Turns;
 
 // The script's stores in turn.
 fn stores(
-    script: Script,
-    out: &mut Buffer,
+    turns: &mut Turns,
+    words: &mut [u8; MOST],
+    out: &mut Output,
     records: &mut [u64],
     children: &mut [u64],
     text: &mut [u8],
-) {
-    let mut ordinal: usize = 0;
-    let mut left = call::MOST_WORDS;
-    let mut asked = store::first_store();
-    loop {
-        let after = calls::on_store(script, out, records, children, text, asked, ordinal, left);
-        if !after.more {
-            return;
+) -> Result<(), Complaint> {
+    let mut store = Store::default();
+    while let Some(next) = calls::on_store(turns, words, out, records, children, text, store)? {
+        store = next;
+    }
+    Ok(())
+}
+
+// Says what ended the replies before the script's end. Where no more could be read, a call that ends too early is not at fault.
+fn tell_end(rt: HostRuntime, replied: Result<(), Complaint>, read: io::Result<()>) {
+    match (replied, read) {
+        (Err(complaint), Err(error)) if complaint.fault == Fault::Ends => {
+            files::tell(rt.stderr(), b"the script", error);
         }
-        ordinal = after.ordinal;
-        left = after.left;
-        let next = after.store;
-        asked = next;
+        (Err(complaint), _) => {
+            let _ = eprintln!(rt; "{complaint}");
+        }
+        (Ok(()), Err(error)) => files::tell(rt.stderr(), b"the script", error),
+        (Ok(()), Ok(())) => {}
     }
 }
 
-// The replies to the open script, through one buffer.
-fn replay(rt: HostRuntime, script: Script) {
+// The replies to the script in an open file.
+fn replay(rt: HostRuntime, file: File) {
     // somewhat more places than a store uses
     let mut records = [0u64; 65600];
     let mut children = [0u64; 16400];
     let mut text = [0u8; 65600];
-    let mut out = Buffer::new(rt);
-    stores(script, &mut out, &mut records, &mut children, &mut text);
-    out::flush(&mut out);
+    let mut words = [0u8; MOST];
+    let mut out = Output::new(rt);
+    let mut turns = Turns::new(file);
+    let replied = stores(
+        &mut turns,
+        &mut words,
+        &mut out,
+        &mut records,
+        &mut children,
+        &mut text,
+    );
+    tell_end(rt, replied, turns.read);
+    out.flush();
 }
 
 fn replay_file(rt: HostRuntime, name: &[u8]) {
-    let Some(file) = files::open(rt, name) else {
-        return;
-    };
-    let script = Script {
-        file: &file,
-        complaints: rt.stderr(),
-    };
-    replay(rt, script);
+    match files::open(rt, name) {
+        Ok(file) => replay(rt, file),
+        Err(error) => files::tell(rt.stderr(), name, error),
+    }
 }
 
 fn put_usage(rt: HostRuntime) {
     let _ = eprintln!(rt; "usage: replay [CALLS]   (without a name: the file `calls`)");
 }
 
-// Whether two names are the same bytes.
-fn is_same(a: &[u8], b: &[u8]) -> bool {
-    if a.len() != b.len() {
-        return false;
-    }
-    let mut i = 0;
-    while i < a.len() {
-        if a[i] != b[i] {
-            return false;
-        }
-        i += 1;
-    }
-    true
-}
-
-fn is_help(argument: &[u8]) -> bool {
-    is_same(argument, b"-h") || is_same(argument, b"--help")
-}
-
 // The file that the argument names, unless it asks for help.
 fn replay_named(rt: HostRuntime) {
     let mut name = [0u8; 4096];
-    let read = arguments::read(rt, 1, b"CALLS", &mut name);
-    if !read.ok {
-        return;
+    match arguments::read(rt, 1, &mut name) {
+        Ok(b"-h" | b"--help") => put_usage(rt),
+        Ok(name) => replay_file(rt, name),
+        Err(error) => files::tell(rt.stderr(), b"CALLS", error),
     }
-    let n = read.count;
-    if is_help(&name[..n]) {
-        put_usage(rt);
-        return;
-    }
-    replay_file(rt, &name[..n]);
 }
 
 fn main(rt: HostRuntime) {

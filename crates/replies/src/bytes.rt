@@ -1,49 +1,47 @@
 // Bytes in a reply: their count, and two digits for each.
 
-ghost use Rattle.std.specs.Prelude.{◌<◌};
-
-use crate::show::put_number;
-use files::out;
-use files::out::Buffer;
-
-fn digit(x: u8) -> u8
-    requires { x < 16 }
-{
-    if x < 10 { 48 + x } else { 87 + x }
-}
-
-fn put_byte(out: &mut Buffer, byte: u8) {
-    let pair = [digit(byte / 16), digit(byte % 16)];
-    out::put(out, &pair);
-}
+use std::fmt;
+use std::fmt::{Display, Formatter, Write};
 
 // Two digits for each byte.
-pub(crate) fn put_digits(out: &mut Buffer, bytes: &[u8]) {
-    let mut i = 0;
-    while i < bytes.len() {
-        put_byte(out, bytes[i]);
-        i += 1;
+#[derive(Clone, Copy)]
+struct Digits<'a>(&'a [u8]);
+
+impl Display for Digits<'_> {
+    fn fmt<W: Write>(&self, f: &mut Formatter<W>) -> fmt::Result {
+        for byte in self.0 {
+            write!(f, "{byte:02x}")?;
+        }
+        Ok(())
     }
 }
 
 // Bytes at the end of a line.
-pub fn put_bytes(out: &mut Buffer, bytes: &[u8]) {
-    put_number(out, bytes.len());
-    if 0 < bytes.len() {
-        out::put(out, b" ");
-        put_digits(out, bytes);
+#[derive(Clone, Copy)]
+pub struct Bytes<'a>(pub &'a [u8]);
+
+impl Display for Bytes<'_> {
+    fn fmt<W: Write>(&self, f: &mut Formatter<W>) -> fmt::Result {
+        if self.0.is_empty() {
+            return write!(f, "0");
+        }
+        write!(f, "{} {}", self.0.len(), Digits(self.0))
     }
 }
 
 // A chunk's bytes, or by its outcome why there is none: 1 says the end, any other number is a refusal's.
-pub fn put_chunk(out: &mut Buffer, outcome: usize, chunk: &[u8]) {
-    if outcome == 0 {
-        out::put(out, b"chunk");
-        put_bytes(out, chunk);
-    } else if outcome == 1 {
-        out::put(out, b"ended");
-    } else {
-        out::put(out, b"refused");
-        put_number(out, outcome);
+#[derive(Clone, Copy)]
+pub struct Chunk<'a> {
+    pub outcome: usize,
+    pub bytes: &'a [u8],
+}
+
+impl Display for Chunk<'_> {
+    fn fmt<W: Write>(&self, f: &mut Formatter<W>) -> fmt::Result {
+        match self.outcome {
+            0 => write!(f, "chunk {}", Bytes(self.bytes)),
+            1 => write!(f, "ended"),
+            number => write!(f, "refused {number}"),
+        }
     }
 }

@@ -1,103 +1,129 @@
 // The lines of replies that name elements.
 
-use crate::show::{put_kind, put_number, put_refused};
-use files::out;
-use files::out::Buffer;
-use preorder::state::Answer;
+use crate::show::{Kind, Shown};
 use query::reply::Reply;
-use utility_types::{SyntaxElement, TokenAtOffset, WalkEvent, number};
+use script::op::Op;
+use std::fmt;
+use std::fmt::{Display, Formatter, Write};
+use utility_types::{Refusal, SyntaxElement, TokenAtOffset, WalkEvent};
 
 // A path of `depth` indexes: their count, and they. No element has more than 64.
-pub fn put_path(out: &mut Buffer, path: &[u32; 64], depth: usize) {
-    put_number(out, depth);
-    let mut i = 0;
-    while i < 64 && i < depth {
-        put_number(out, number::widen(path[i]));
-        i += 1;
+#[derive(Clone, Copy)]
+struct Path<'a> {
+    indexes: &'a [u32; 64],
+    depth: usize,
+}
+
+impl Display for Path<'_> {
+    fn fmt<W: Write>(&self, f: &mut Formatter<W>) -> fmt::Result {
+        let Path { indexes, depth } = *self;
+        write!(f, "{depth}")?;
+        for index in indexes.iter().take(depth) {
+            write!(f, " {index}")?;
+        }
+        Ok(())
     }
 }
 
 // Whether an element is a node or a token, its kind, its range and its path.
-pub fn put_element(out: &mut Buffer, before: &[u8], it: SyntaxElement, path: &[u32; 64]) {
-    out::put(out, before);
-    put_kind(out, it.is_node, it.kind);
-    put_number(out, it.start);
-    put_number(out, it.end);
-    put_path(out, path, it.depth);
+#[derive(Clone, Copy)]
+pub struct Element<'a> {
+    pub it: SyntaxElement,
+    pub path: &'a [u32; 64],
 }
 
-// The tokens at an offset, each with its path.
-fn put_tokens(out: &mut Buffer, tokens: TokenAtOffset, left: &[u32; 64], right: &[u32; 64]) {
-    match tokens {
-        TokenAtOffset::None => out::put(out, b"none"),
-        TokenAtOffset::Single(it) => put_element(out, b"", it, left),
-        TokenAtOffset::Between(one, other) => {
-            put_element(out, b"", one, left);
-            put_element(out, b" ", other, right);
-        }
-    }
-}
-
-// Where a number occurs: by the path that was lent.
-fn put_found(out: &mut Buffer, path: &[u32; 64], depth: usize) {
-    out::put(out, b"found");
-    put_path(out, path, depth);
-}
-
-fn put_truth(out: &mut Buffer, is_so: bool) {
-    if is_so {
-        out::put(out, b"yes");
-    } else {
-        out::put(out, b"no");
-    }
-}
-
-// What call `op` asks of a text.
-fn put_of_text(out: &mut Buffer, op: u32, n: usize) {
-    match op {
-        52 => out::put(out, b"length"),
-        56 => out::put(out, b"at"),
-        _ => out::put(out, b"char"),
-    }
-    put_number(out, n);
-}
-
-fn put_told(out: &mut Buffer, op: u32, reply: Reply, path: &[u32; 64], other: &[u32; 64]) {
-    match reply {
-        Reply::None => out::put(out, b"none"),
-        Reply::Element(it) => put_element(out, b"", it, path),
-        Reply::Tokens(tokens) => put_tokens(out, tokens, path, other),
-        Reply::Text(_, _) => out::put(out, b"ok"),
-        Reply::Number(n) => put_of_text(out, op, n),
-        Reply::Truth(is_so) => put_truth(out, is_so),
-        Reply::Walk(_) => out::put(out, b"ok"),
-        Reply::Path(depth) => put_found(out, path, depth),
-        Reply::Refused(why) => put_refused(out, why),
-    }
-}
-
-// The reply to call `op`, by the two paths that were lent.
-pub fn put_reply(out: &mut Buffer, op: u32, reply: Reply, path: &[u32; 64], other: &[u32; 64]) {
-    put_told(out, op, reply, path, other);
-    out::put(out, b"\n");
-}
-
-pub fn put_event(out: &mut Buffer, is_enter: bool, it: SyntaxElement, path: &[u32; 64]) {
-    if is_enter {
-        put_element(out, b"enter ", it, path);
-    } else {
-        put_element(out, b"leave ", it, path);
+impl Display for Element<'_> {
+    fn fmt<W: Write>(&self, f: &mut Formatter<W>) -> fmt::Result {
+        let it = self.it;
+        let kind = Kind {
+            is_node: it.is_node,
+            kind: it.kind,
+        };
+        let path = Path {
+            indexes: self.path,
+            depth: it.depth,
+        };
+        // Part by part: one format around them costs a tenth more where a walk puts millions.
+        kind.fmt(f)?;
+        write!(f, " {} {} ", it.start, it.end)?;
+        path.fmt(f)
     }
 }
 
 // What a walk gives, by the path of what came.
-pub fn put_answer(out: &mut Buffer, answer: Answer, path: &[u32; 64]) {
-    match answer {
-        Answer::Event(event) => match event {
-            WalkEvent::Enter(it) => put_event(out, true, it, path),
-            WalkEvent::Leave(it) => put_event(out, false, it, path),
-        },
-        Answer::Ended => out::put(out, b"ended"),
-        Answer::Refused(why) => put_refused(out, why),
+#[derive(Clone, Copy)]
+pub struct Walked<'a> {
+    pub answer: Result<Option<WalkEvent>, Refusal>,
+    pub path: &'a [u32; 64],
+}
+
+impl Display for Walked<'_> {
+    fn fmt<W: Write>(&self, f: &mut Formatter<W>) -> fmt::Result {
+        let path = self.path;
+        match self.answer {
+            Ok(Some(WalkEvent::Enter(it))) => write!(f, "enter {}", Element { it, path }),
+            Ok(Some(WalkEvent::Leave(it))) => write!(f, "leave {}", Element { it, path }),
+            Ok(None) => write!(f, "ended"),
+            Err(why) => write!(f, "{}", Shown(why)),
+        }
+    }
+}
+
+// The reply to a call, by the two paths that were lent.
+#[derive(Clone, Copy)]
+pub struct Replied<'a> {
+    pub op: Op,
+    pub reply: Reply,
+    pub path: &'a [u32; 64],
+    pub other: &'a [u32; 64],
+}
+
+impl Replied<'_> {
+    // The tokens at an offset, each with its path.
+    fn fmt_tokens<W: Write>(&self, f: &mut Formatter<W>, tokens: TokenAtOffset) -> fmt::Result {
+        let path = self.path;
+        match tokens {
+            TokenAtOffset::None => write!(f, "none"),
+            TokenAtOffset::Single(it) => write!(f, "{}", Element { it, path }),
+            TokenAtOffset::Between(it, right) => {
+                let right = Element {
+                    it: right,
+                    path: self.other,
+                };
+                write!(f, "{} {right}", Element { it, path })
+            }
+        }
+    }
+
+    // What is asked of a text.
+    fn fmt_number<W: Write>(&self, f: &mut Formatter<W>, number: usize) -> fmt::Result {
+        match self.op {
+            Op::TextLength => write!(f, "length {number}"),
+            Op::TextFind => write!(f, "at {number}"),
+            _ => write!(f, "char {number}"),
+        }
+    }
+}
+
+impl Display for Replied<'_> {
+    fn fmt<W: Write>(&self, f: &mut Formatter<W>) -> fmt::Result {
+        let path = self.path;
+        match self.reply {
+            Reply::None => write!(f, "none"),
+            Reply::Element(it) => write!(f, "{}", Element { it, path }),
+            Reply::Tokens(tokens) => self.fmt_tokens(f, tokens),
+            Reply::Text(_, _) | Reply::Walk(_) => write!(f, "ok"),
+            Reply::Number(number) => self.fmt_number(f, number),
+            Reply::Truth(true) => write!(f, "yes"),
+            Reply::Truth(false) => write!(f, "no"),
+            Reply::Path(depth) => {
+                let found = Path {
+                    indexes: path,
+                    depth,
+                };
+                write!(f, "found {found}")
+            }
+            Reply::Refused(why) => write!(f, "{}", Shown(why)),
+        }
     }
 }

@@ -1,130 +1,119 @@
-// A call's head. What is no script ends the replay with a line on standard error that says which call is at fault; the
-// replies to the calls before it stand.
+// A call and those of its words that were not read yet. Each word is read once: a method takes what it answers off the front, and after
+// a fault the script is over.
 
-ghost use Rattle.std.specs.Prelude.{◌≡◌, true, false, ◌<◌};
+ghost use Rattle.std.specs.Prelude.{◌≡◌, ◌+◌, ◌*◌, ◌≤◌, ◌<◌, ◌↔◌, ◌≢◌, length, take, drop, IsOk, IfOk, IsErrOf};
+ghost use Rattle.std.specs.Int.{w32, from_le_bytes};
+ghost use Rattle.script.specs.Words.{words};
 
-use std::fs::File;
-use std::io::Stderr;
-use utility_types::number;
+use crate::fault::{Fault, Place};
+use crate::op::Op;
 
-// A script has at most 1,000,000 bytes.
-pub const MOST_WORDS: usize = 250000;
-
-// An open script, and where complaints about it go.
-#[derive(Clone, Copy)]
-pub struct Script<'a> {
-    pub file: &'a File,
-    pub complaints: Stderr,
-}
-
-// A call of a script: its ordinal from 0 and the byte where it starts, for complaints, its number, and how many words of
-// arguments follow.
+// A call of a number that is not known has no `op`. `left` of its words come next in `rest`, unless the script ends before.
 #[derive(Clone, Copy)]
 pub struct Call<'a> {
-    pub script: Script<'a>,
-    pub ordinal: usize,
-    pub start: usize,
-    pub op: u32,
-    pub m: usize,
+    pub place: Place,
+    pub op: Option<Op>,
+    pub left: u32,
+    pub rest: &'a [u8],
 }
 
-// Says what is wrong with a call, and answers that the script does not go on.
-pub fn complain(call: Call, what: &[u8]) -> bool {
-    let to = call.script.complaints;
-    let _ = eprint!(to; "call {} at byte {}", call.ordinal, call.start);
-    files::tell(to, b"", what);
-    false
-}
-
-// What was read: all that was asked for, nothing since the script is over, or too little.
-#[derive(Clone, Copy)]
-enum Got {
-    Whole,
-    Nothing,
-    Broken,
-}
-
-fn fill(call: Call, buf: &mut [u8]) -> Got {
-    let read = files::read_part(call.script.complaints, call.script.file, b"the script", buf);
-    if !read.ok {
-        return Got::Broken;
+impl<'a> Call<'a> {
+    pub fn word(&mut self) -> Result<u32, Fault>
+        ensures value { IfOk result (λ word. word ≡ from_le_bytes w32 (take 4 self.old.rest.now)) }
+        ensures misfit { IsErrOf result Fault.Misfit ↔ (self.old.left ≡ 0) }
+        ensures rest { IfOk result (λ _. self.new.rest.now ≡ drop 4 self.old.rest.now) }
+        ensures size { IfOk result (λ _. length self.new.rest.now + 4 ≡ length self.old.rest.now) }
+        ensures left { IfOk result (λ _. self.new.left + 1 ≡ self.old.left) }
+    {
+        if self.left == 0 {
+            return Err(Fault::Misfit);
+        }
+        let (word, rest) = self.rest.split_first_chunk::<4>().ok_or(Fault::Ends)?;
+        self.left -= 1;
+        self.rest = rest;
+        Ok(u32::from_le_bytes(*word))
     }
-    if read.count == buf.len() {
-        return Got::Whole;
-    }
-    if read.count == 0 {
-        return Got::Nothing;
-    }
-    complain(call, b"the script ends within it");
-    Got::Broken
-}
 
-// The same within a call, where the script may not end. Whether all came.
-pub fn fill_whole(call: Call, buf: &mut [u8]) -> bool {
-    let got = fill(call, buf);
-    match got {
-        Got::Whole => true,
-        Got::Nothing => complain(call, b"the script ends within it"),
-        Got::Broken => false,
+    // A word that must be less than `bound`: a slot, a walk's mode or a byte.
+    pub fn below(&mut self, bound: u32) -> Result<u32, Fault>
+        ensures value { IfOk result (λ word. word ≡ from_le_bytes w32 (take 4 self.old.rest.now)) }
+        ensures below { IfOk result (λ word. word < bound) }
+        ensures left { IfOk result (λ _. self.new.left + 1 ≡ self.old.left) }
+    {
+        let word = self.word()?;
+        if bound <= word {
+            return Err(Fault::OutOfRange);
+        }
+        Ok(word)
     }
-}
 
-// The next call, if there is one. `left` words of the longest script are left after it.
-#[derive(Clone, Copy)]
-pub struct Head<'a> {
-    pub more: bool,
-    pub call: Call<'a>,
-    pub left: usize,
-}
-
-fn no_head(call: Call<'_>) -> Head<'_>
-    ensures { result.more ≡ false }
-{
-    Head {
-        more: false,
-        call,
-        left: 0,
+    // The bytes of the next `count` words.
+    pub fn take(&mut self, count: u32) -> Result<&'a [u8], Fault>
+        ensures value { IfOk result (λ bytes. bytes.now ≡ take (4 * count) self.old.rest.now) }
+        ensures size { IfOk result (λ bytes. length bytes.now ≡ 4 * count) }
+        ensures misfit { IsErrOf result Fault.Misfit ↔ (self.old.left < count) }
+        ensures rest { IfOk result (λ _. self.new.rest.now ≡ drop (4 * count) self.old.rest.now) }
+        ensures left { IfOk result (λ _. self.new.left + count ≡ self.old.left) }
+    {
+        if self.left < count {
+            return Err(Fault::Misfit);
+        }
+        let size = 4 * count as usize;
+        let (bytes, rest) = self.rest.split_at_checked(size).ok_or(Fault::Ends)?;
+        self.left -= count;
+        self.rest = rest;
+        Ok(bytes)
     }
-}
 
-// The byte that comes next where `left` words of the longest script are left.
-fn start_of(left: usize) -> usize {
-    4 * (MOST_WORDS - number::lesser(left, MOST_WORDS))
-}
-
-// The head of the call that comes next; `left` words of the longest script are left.
-pub fn read_head(script: Script<'_>, ordinal: usize, left: usize) -> Head<'_>
-    ensures { result.more ≡ true → result.left < left }
-{
-    let start = start_of(left);
-    let mut bytes = [0u8; 8];
-    let coming = Call {
-        script,
-        ordinal,
-        start,
-        op: 0,
-        m: 0,
-    };
-    let got = fill(coming, &mut bytes);
-    let Got::Whole = got else {
-        return no_head(coming);
-    };
-    let op = number::u32_at(&bytes, 0);
-    let m = number::widen(number::u32_at(&bytes, 4));
-    let call = Call {
-        script,
-        ordinal,
-        start,
-        op,
-        m,
-    };
-    if left < 2 || left - 2 < m {
-        complain(call, b"it reaches past 1000000 bytes");
-        return no_head(call);
+    // The next words, as many as a lent place has.
+    pub fn fill(&mut self, into: &mut [u32]) -> Result<(), Fault>
+        ensures size { length into.new ≡ length into.old }
+        ensures words { IfOk result (λ _. into.new ≡ words (length into.old) self.old.rest.now) }
+        ensures rest { IfOk result (λ _. self.new.rest.now ≡ drop (4 * length into.old) self.old.rest.now) }
+        ensures left { IfOk result (λ _. self.new.left + length into.old ≡ self.old.left) }
+    {
+        for i in 0..into.len() {
+            into[i] = self.word()?;
+        }
+        Ok(())
     }
-    Head {
-        more: true,
-        call,
-        left: left - 2 - m,
+
+    // Whether as many words are left as the arguments need.
+    pub fn exactly(&self, count: u32) -> Result<(), Fault>
+        ensures ok { IsOk result ↔ (self.now.left ≡ count) }
+        ensures misfit { IsErrOf result Fault.Misfit ↔ (self.now.left ≢ count) }
+    {
+        if self.left != count {
+            return Err(Fault::Misfit);
+        }
+        Ok(())
+    }
+
+    // The last word.
+    pub fn last_word(&mut self) -> Result<u32, Fault>
+        ensures value { IfOk result (λ word. word ≡ from_le_bytes w32 (take 4 self.old.rest.now)) }
+        ensures misfit { IsErrOf result Fault.Misfit ↔ (self.old.left ≢ 1) }
+    {
+        self.exactly(1)?;
+        self.word()
+    }
+
+    // The last word, where it must be less than `bound`.
+    pub fn last_below(&mut self, bound: u32) -> Result<u32, Fault>
+        ensures value { IfOk result (λ word. word ≡ from_le_bytes w32 (take 4 self.old.rest.now)) }
+        ensures below { IfOk result (λ word. word < bound) }
+        ensures last { IfOk result (λ _. self.old.left ≡ 1) }
+    {
+        let word = self.below(bound)?;
+        self.exactly(0)?;
+        Ok(word)
+    }
+
+    // Words that nothing wants.
+    pub fn pass_over(&mut self) -> Result<(), Fault>
+        ensures { IfOk result (λ _. self.new.left ≡ 0) }
+    {
+        self.take(self.left)?;
+        Ok(())
     }
 }

@@ -1,10 +1,13 @@
 // The places that a script's store is lent: call 1 says how many.
 
-use crate::call::{Call, fill_whole};
-use utility_types::number;
+ghost use Rattle.std.specs.Prelude.{◌≡◌, ◌≢◌, ◌↔◌, take, drop, IfOk, IsErrOf};
+ghost use Rattle.std.specs.Int.{w32, from_le_bytes};
+
+use crate::call::Call;
+use crate::fault::Fault;
 
 // How many records, child places and text bytes.
-#[derive(Clone, Copy)]
+#[derive(Clone, Copy, Debug, PartialEq, Eq)]
 pub struct Store {
     pub records: usize,
     pub children: usize,
@@ -12,30 +15,31 @@ pub struct Store {
 }
 
 // What a script starts with.
-pub fn first_store() -> Store {
-    Store {
-        records: 8192,
-        children: 16384,
-        text: 65536,
+impl Default for Store {
+    fn default() -> Store
+        ensures { (result.records ≡ 8192) × (result.children ≡ 16384) × (result.text ≡ 65536) }
+    {
+        Store {
+            records: 8192,
+            children: 16384,
+            text: 65536,
+        }
     }
 }
 
-// The store that call 1 asks for, if its words are there.
-#[derive(Clone, Copy)]
-pub struct Asked {
-    pub ok: bool,
-    pub store: Store,
-}
-
-pub fn read_store(call: Call) -> Asked {
-    let mut bytes = [0u8; 12];
-    let ok = fill_whole(call, &mut bytes);
-    Asked {
-        ok,
-        store: Store {
-            records: number::widen(number::u32_at(&bytes, 0)),
-            children: number::widen(number::u32_at(&bytes, 4)),
-            text: number::widen(number::u32_at(&bytes, 8)),
-        },
+impl Store {
+    // The store that call 1 asks for.
+    pub fn read(call: &mut Call) -> Result<Store, Fault>
+        ensures misfit { IsErrOf result Fault.Misfit ↔ (call.old.left ≢ 3) }
+        ensures records { IfOk result (λ store. store.records ≡ from_le_bytes w32 (take 4 call.old.rest.now)) }
+        ensures children { IfOk result (λ store. store.children ≡ from_le_bytes w32 (take 4 (drop 4 call.old.rest.now))) }
+        ensures text { IfOk result (λ store. store.text ≡ from_le_bytes w32 (take 4 (drop 8 call.old.rest.now))) }
+    {
+        call.exactly(3)?;
+        Ok(Store {
+            records: call.word()? as usize,
+            children: call.word()? as usize,
+            text: call.word()? as usize,
+        })
     }
 }

@@ -15,30 +15,17 @@ use Rattle.definitions.specs.NodeCache.{Made as Making}
 use Rattle.definitions.specs.Refusal.{is_no_node}
 use Rattle.definitions.specs.Preorder as preorder
 use Rattle.definitions.specs.SyntaxText.{Chunks, of_text, chunks, stepped, next_chunk}
-use Rattle.utility_types.specs.Numbers.{refusal_number}
+use Rattle.utility_types.specs.Numbers.{refusal_number, OrRefusal}
 use Rattle.utility_types.specs.Elements.{event_at}
-use Rattle.utility_types.specs.declared.Made.{Made}
-use Rattle.utility_types.specs.declared.Made.TheVariants as made
 use Rattle.utility_types.specs.declared.Refusal.{Refusal}
 use Rattle.utility_types.specs.declared.TokenAtOffset.TheVariants as found
 use Rattle.utility_types.specs.declared.WalkEvent.TheVariants.{Enter, Leave}
 use Rattle.green.specs.Store.{Store, entries, both}
-use Rattle.green.specs.declared.element.Summarized.{Summarized}
-use Rattle.green.specs.declared.element.Summarized.TheVariants as summary
-use Rattle.green.specs.declared.node.ChildAt.{ChildAt}
-use Rattle.green.specs.declared.node.ChildAt.TheVariants as child
 use Rattle.green_new.specs.Done.{Done}
-use Rattle.cursor.specs.declared.position.Answer.{Answer}
-use Rattle.cursor.specs.declared.position.Answer.TheVariants as answer
 use Rattle.cursor.specs.Answers.{PathKept}
-use Rattle.cursor_range.specs.declared.offset.Tokens.{Tokens}
-use Rattle.cursor_range.specs.declared.offset.Tokens.TheVariants as offset
 use Rattle.cursor_range.specs.Answers.{KeptTokens}
 use Rattle.preorder.specs.declared.state.Coming.TheVariants as coming
-use Rattle.preorder.specs.declared.state.Moved.{Moved}
-use Rattle.preorder.specs.declared.state.Moved.TheVariants as moved
-use Rattle.preorder.specs.declared.state.Answer as walk
-use Rattle.preorder.specs.declared.state.Answer.TheVariants as event
+use Rattle.utility_types.specs.declared.WalkEvent.{WalkEvent}
 use Rattle.preorder.specs.Walks.{next_of, answer_as, WalkKept}
 use Rattle.preorder_many.specs.declared.state.Stop.{Stop}
 use Rattle.preorder_many.specs.declared.state.Stop.TheVariants as stop
@@ -56,6 +43,12 @@ use Rattle.cursor_ffi.specs.Exports.{named_token, TokenText}
 use Rattle.notes_tree_ffi.specs.Exports.{EditExported, QueryExported, WalkSteps, WalkGives, chunk_given, chunk_kept, ChunkGives}
 use Rattle.settled.specs.Refused.{RefusedKeeps}
 use Rattle.settled.proofs.Reading.{two_words}
+use Rattle.std.specs.Prelude.{Ok, Err, Some, None, Option as Optional}
+use Rattle.utility_types.specs.declared.SyntaxElement.{SyntaxElement}
+use Rattle.utility_types.specs.declared.TokenAtOffset.{TokenAtOffset}
+use Rattle.preorder.specs.declared.state.Ahead.{Ahead}
+use Rattle.green.specs.declared.element.Summary.{Summary}
+use Rattle.green.specs.declared.node.Child.{Child}
 
 -- an outcome over 100 is none of those below it
 over : {x n : ℕ} {A : Type 0} → 100 < x → x ≡ n → n ≤ 100 → A
@@ -65,29 +58,29 @@ refused_ok : {A : Type 0} {n : ℕ} {a : A} → refused n ≡ ok a → ⊥
 refused_ok e = let z : ◌≡◌ {A = ℕ} 0 1 = cc in omega arith
 
 -- edits and records
-done_kept : (s s₁ : Store) (r : Result Making) (y : Refusal) → Done s s₁ r (made.Refused y) → s₁ ≡ s
+done_kept : (s s₁ : Store) (r : Result Making) (y : Refusal) → Done s s₁ r (Err y) → s₁ ≡ s
 done_kept s s₁ (ok m) y d = absurd (refused_ok d.answers)
 done_kept s s₁ (refused n) y d = d.unchanged d.spells
 
-made_kept : (s s₁ : Store) (r : Result Making) (y : Made) (m m₁ : List ℕ) (x : ℕ) → 100 < x → Done s s₁ r y → OutputWritten (made_told y) m m₁ x → (s₁ ≡ s) × (m₁ ≡ m)
-made_kept s s₁ r (made.Number n) m m₁ x h d w = over h w.outcome (omega arith)
-made_kept s s₁ r (made.Refused y) m m₁ x h d w = (done_kept s s₁ r y d, w.words)
+made_kept : (s s₁ : Store) (r : Result Making) (y : OrRefusal ℕ) (m m₁ : List ℕ) (x : ℕ) → 100 < x → Done s s₁ r y → OutputWritten (made_told y) m m₁ x → (s₁ ≡ s) × (m₁ ≡ m)
+made_kept s s₁ r (Ok n) m m₁ x h d w = over h w.outcome (omega arith)
+made_kept s s₁ r (Err y) m m₁ x h d w = (done_kept s s₁ r y d, w.words)
 
 edit_kept : (s s₁ : Store) (o : Option Edit) (m m₁ : List ℕ) (x : ℕ) → 100 < x → EditExported (both s s₁) o (both m m₁) x → (s₁ ≡ s) × (m₁ ≡ m)
 edit_kept s s₁ none m m₁ x h a = over h (a.foreign refl).written.outcome (omega arith)
 edit_kept s s₁ (some e) m m₁ x h a = let c = a.known e refl in made_kept s s₁ _ c.made m m₁ x h c.done c.written
 
-summary_kept : (y : Summarized) (m m₁ : List ℕ) (x : ℕ) → 100 < x → OutputWritten (summary_told y) m m₁ x → m₁ ≡ m
-summary_kept (summary.Of s) m m₁ x h w = go s.is_node w.outcome
+summary_kept : (y : OrRefusal Summary) (m m₁ : List ℕ) (x : ℕ) → 100 < x → OutputWritten (summary_told y) m m₁ x → m₁ ≡ m
+summary_kept (Ok s) m m₁ x h w = go s.is_node w.outcome
   where
     go : (b : Bool) → x ≡ element_kind b → m₁ ≡ m
     go true e = over h e (omega arith)
     go false e = over h e (omega arith)
-summary_kept (summary.Refused r) m m₁ x h w = w.words
+summary_kept (Err r) m m₁ x h w = w.words
 
-child_kept : (y : ChildAt) (m m₁ : List ℕ) (x : ℕ) → 100 < x → OutputWritten (child_told y) m m₁ x → m₁ ≡ m
-child_kept (child.Found c) m m₁ x h w = over h w.outcome (omega arith)
-child_kept (child.Refused r) m m₁ x h w = w.words
+child_kept : (y : OrRefusal Child) (m m₁ : List ℕ) (x : ℕ) → 100 < x → OutputWritten (child_told y) m m₁ x → m₁ ≡ m
+child_kept (Ok c) m m₁ x h w = over h w.outcome (omega arith)
+child_kept (Err r) m m₁ x h w = w.words
 
 -- questions
 module _ (l l₁ r r₁ m m₁ : List ℕ) (x : ℕ) (h : 100 < x) where
@@ -112,14 +105,14 @@ module _ (l l₁ r r₁ m m₁ : List ℕ) (x : ℕ) (h : 100 < x) where
   reply_kept (reply.Path d) k w = over h w.outcome (omega arith)
   reply_kept (reply.Refused y) k w = (k.0, k.1, w.words)
 
-  answer_kept : (y : Answer) → PathKept l l₁ y → r₁ ≡ r → OutputWritten (answer_told y) m m₁ x → Kept
-  answer_kept (answer.Element e) k q w = reply_kept (reply.Element e) (k, q) w
-  answer_kept answer.None k q w = reply_kept reply.None (k, q) w
-  answer_kept (answer.Refused y) k q w = reply_kept (reply.Refused y) (k, q) w
+  answer_kept : (y : OrRefusal (Optional SyntaxElement)) → PathKept l l₁ y → r₁ ≡ r → OutputWritten (answer_told y) m m₁ x → Kept
+  answer_kept (Ok (Some e)) k q w = reply_kept (reply.Element e) (k, q) w
+  answer_kept (Ok None) k q w = reply_kept reply.None (k, q) w
+  answer_kept (Err y) k q w = reply_kept (reply.Refused y) (k, q) w
 
-  tokens_kept : (y : Tokens) → KeptTokens l l₁ r r₁ y → OutputWritten (tokens_told y) m m₁ x → Kept
-  tokens_kept (offset.At t) k w = reply_kept (reply.Tokens t) k w
-  tokens_kept (offset.Refused y) k w = reply_kept (reply.Refused y) k w
+  tokens_kept : (y : OrRefusal TokenAtOffset) → KeptTokens l l₁ r r₁ y → OutputWritten (tokens_told y) m m₁ x → Kept
+  tokens_kept (Ok t) k w = reply_kept (reply.Tokens t) k w
+  tokens_kept (Err y) k w = reply_kept (reply.Refused y) k w
 
 query_kept : (s : Store) (root depth : ℕ) (p p₁ r r₁ : List ℕ) (o : Option Question) (m m₁ : List ℕ) (x : ℕ) → 100 < x → QueryExported s root depth (both p p₁) (both r r₁) o (both m m₁) x
     → (p₁ ≡ p) × (r₁ ≡ r) × (m₁ ≡ m)
@@ -131,13 +124,13 @@ text_kept es b root p none m m₁ x h a = (a.no_token refl).words
 text_kept es b root p (some t) m m₁ x h a = over h (a.token t refl).written.outcome (omega arith)
 
 -- walks
-begin_kept : (w w₁ : List ℕ) (root : ℕ) (tokens : Bool) (y : Moved) (x : ℕ) → 100 < x → w₁ ≡ begun_in w root tokens y → x ≡ (moved_told y).outcome → w₁ ≡ w
-begin_kept w w₁ root tokens (moved.To a) x h e o = over h o (omega arith)
-begin_kept w w₁ root tokens (moved.Refused r) x h e o = e
+begin_kept : (w w₁ : List ℕ) (root : ℕ) (tokens : Bool) (y : OrRefusal Ahead) (x : ℕ) → 100 < x → w₁ ≡ begun_in w root tokens y → x ≡ (moved_told y).outcome → w₁ ≡ w
+begin_kept w w₁ root tokens (Ok a) x h e o = over h o (omega arith)
+begin_kept w w₁ root tokens (Err r) x h e o = e
 
-skip_kept : (w w₁ : List ℕ) (y : Moved) (x : ℕ) → 100 < x → w₁ ≡ skipped_in w y → x ≡ (moved_told y).outcome → w₁ ≡ w
-skip_kept w w₁ (moved.To a) x h e o = over h o (omega arith)
-skip_kept w w₁ (moved.Refused r) x h e o = e
+skip_kept : (w w₁ : List ℕ) (y : OrRefusal Ahead) (x : ℕ) → 100 < x → w₁ ≡ skipped_in w y → x ≡ (moved_told y).outcome → w₁ ≡ w
+skip_kept w w₁ (Ok a) x h e o = over h o (omega arith)
+skip_kept w w₁ (Err r) x h e o = e
 
 -- a walk that is refused is not over, and what comes is kept in the word that said it
 ended_answers : (es : List Entry) (r : ℕ) (tokens : Bool) (start depth : ℕ) (l : List ℕ) (n : ℕ) → (next_of es r tokens start depth l coming.Ended).answer ≡ refused n → ⊥
@@ -159,12 +152,12 @@ words_back (x ∷ y ∷ w) a b h e f = rw (e, f) refl
 next_kept : (s : Store) (w w₁ p p₁ m m₁ : List ℕ) (x : ℕ) → 2 ≤ length w → 100 < x → WalkSteps s (both w w₁) (both p p₁) (both m m₁) x → (w₁ ≡ w) × (p₁ ≡ p) × (m₁ ≡ m)
 next_kept s w w₁ p p₁ m m₁ x long h a = go a.step.answer a.stepped.says a.stepped.kept a.written
   where
-    go : (y : walk.Answer) → answer_as p y ≡ (next_of (entries s) (walk_root w) (walk_tokens w) (walk_start w) (walk_depth w) p (walk_coming w)).answer → WalkKept (walk_depth w) p p₁ (walk_coming w) a.step.depth a.step.coming y
+    go : (y : OrRefusal (Optional WalkEvent)) → answer_as p y ≡ (next_of (entries s) (walk_root w) (walk_tokens w) (walk_start w) (walk_depth w) p (walk_coming w)).answer → WalkKept (walk_depth w) p p₁ (walk_coming w) a.step.depth a.step.coming y
         → OutputWritten (event_told y) m m₁ x → (w₁ ≡ w) × (p₁ ≡ p) × (m₁ ≡ m)
-    go (event.Event (Enter e)) z k o = over h o.outcome (omega arith)
-    go (event.Event (Leave e)) z k o = over h o.outcome (omega arith)
-    go event.Ended z k o = over h o.outcome (omega arith)
-    go (event.Refused y) z k o =
+    go (Ok (Some (Enter e))) z k o = over h o.outcome (omega arith)
+    go (Ok (Some (Leave e))) z k o = over h o.outcome (omega arith)
+    go (Ok None) z k o = over h o.outcome (omega arith)
+    go (Err y) z k o =
         let c : coming_word a.step.coming ≡ get_or w 0 0 = ap coming_word k.2 ∙ word_kept (entries s) (walk_root w) (walk_tokens w) (walk_start w) (walk_depth w) p (refusal_number y) (get_or w 0 0) (sym z) in
         (a.state ∙ words_back w (coming_word a.step.coming) a.step.depth long c k.1, k.0, o.words)
 

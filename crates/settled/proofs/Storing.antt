@@ -8,24 +8,20 @@ use Rattle.definitions.specs.Prelude.{Result, ok, refused}
 use Rattle.definitions.specs.Entry.{child_places, text_bytes}
 use Rattle.definitions.specs.NodeCache.{Made as Making}
 use Rattle.definitions.specs.Run.{End, root, refused_at}
-use Rattle.utility_types.specs.Numbers.{made_number}
-use Rattle.utility_types.specs.declared.Made.{Made}
-use Rattle.utility_types.specs.declared.Made.TheVariants as made
+use Rattle.utility_types.specs.Numbers.{made_number, OrRefusal}
 use Rattle.green.specs.Store.{Store, store, entries, both, Untouched}
 use Rattle.green.specs.Valid.{Valid, Encodes}
 use Rattle.green.specs.Answers.{RecordFields, Place, summarized, placed}
-use Rattle.green.specs.declared.element.Summarized.{Summarized}
-use Rattle.green.specs.declared.element.Summarized.TheVariants as summary
-use Rattle.green.specs.declared.node.ChildAt.{ChildAt}
-use Rattle.green.specs.declared.node.ChildAt.TheVariants as child
 use Rattle.green_new.specs.Done.{Done}
-use Rattle.sheet.specs.declared.Ended.{Ended}
-use Rattle.sheet.specs.declared.Ended.TheVariants as ended
 use Rattle.sheet_run.specs.RunDone.{end_of, RunDone}
 use Rattle.notes_tree.specs.History.{Edit}
 use Rattle.abi.specs.Outcomes.{Output, told, number_outcome, element_kind, ended_told, made_told, summary_told, child_told, SameOutput}
 use Rattle.abi.proofs.Telling.{same_output}
 use Rattle.notes_tree_ffi.specs.Exports.{RunExported, EditExported, ElementExported, ChildExported}
+use Rattle.std.specs.Prelude.{Ok, Err}
+use Rattle.green.specs.declared.element.Summary.{Summary}
+use Rattle.green.specs.declared.node.Child.{Child}
+use Rattle.sheet.specs.Ended.{Ended}
 
 -- a store is fixed by its entries and by what a call left past them
 same_list : (k : ℕ) (a b : List ℕ) → take k a ≡ take k b → drop k a ≡ drop k b → a ≡ b
@@ -67,7 +63,7 @@ module _ (s s₁ s₂ : Store) (v₁ : Valid s₁) (v₂ : Valid s₂) (u₁ : U
       ∙ ap (λ l. store s₂.records s₂.children s₂.text l) used_same
 
 -- an edit, and whatever else makes records: every byte of the store, and the number
-done_store : (s s₁ s₂ : Store) {r : Result Making} {a₁ a₂ : Made} → Done s s₁ r a₁ → Done s s₂ r a₂ → s₁ ≡ s₂
+done_store : (s s₁ s₂ : Store) {r : Result Making} {a₁ a₂ : OrRefusal ℕ} → Done s s₁ r a₁ → Done s s₂ r a₂ → s₁ ≡ s₂
 done_store s s₁ s₂ d₁ d₂ = store_same s s₁ s₂ d₁.valid d₂.valid d₁.untouched d₂.untouched (d₁.spells ∙ sym d₂.spells)
 
 -- a run: every byte of the store, the yields and the end
@@ -79,33 +75,33 @@ abbrev told_number : Result ℕ → Output
 told_number (ok n) = told number_outcome (n ∷ [])
 told_number (refused n) = told (100 + n) []
 
-made_told_lem : (a : Made) → made_told a ≡ told_number (made_number a)
-made_told_lem (made.Number n) = refl
-made_told_lem (made.Refused x) = refl
+made_told_lem : (a : OrRefusal ℕ) → made_told a ≡ told_number (made_number a)
+made_told_lem (Ok n) = refl
+made_told_lem (Err x) = refl
 
 abbrev told_end : End → Output
 told_end (root n) = told number_outcome (n ∷ [])
 told_end (refused_at n i) = told (100 + n) (i ∷ [])
 
 ended_told_lem : (a : Ended) → ended_told a ≡ told_end (end_of a)
-ended_told_lem (ended.Root n) = refl
-ended_told_lem (ended.Refused x i) = refl
+ended_told_lem (Ok n) = refl
+ended_told_lem (Err (x, i)) = refl
 
 abbrev told_fields : Result RecordFields → Output
 told_fields (ok f) = told (element_kind f.is_node) (f.kind ∷ f.len ∷ f.size ∷ f.height ∷ f.children ∷ [])
 told_fields (refused n) = told (100 + n) []
 
-summary_told_lem : (a : Summarized) → summary_told a ≡ told_fields (summarized a)
-summary_told_lem (summary.Of s) = refl
-summary_told_lem (summary.Refused x) = refl
+summary_told_lem : (a : OrRefusal Summary) → summary_told a ≡ told_fields (summarized a)
+summary_told_lem (Ok s) = refl
+summary_told_lem (Err x) = refl
 
 abbrev told_place : Result Place → Output
 told_place (ok p) = told number_outcome (p.number ∷ p.offset ∷ [])
 told_place (refused n) = told (100 + n) []
 
-child_told_lem : (a : ChildAt) → child_told a ≡ told_place (placed a)
-child_told_lem (child.Found c) = refl
-child_told_lem (child.Refused x) = refl
+child_told_lem : (a : OrRefusal Child) → child_told a ≡ told_place (placed a)
+child_told_lem (Ok c) = refl
+child_told_lem (Err x) = refl
 
 pub run_once : (s s₁ s₂ : Store) (y y₁ y₂ sheet source m m₁ m₂ : List ℕ) (x₁ x₂ : ℕ)
     → RunExported (both s s₁) (both y y₁) sheet source (both m m₁) x₁ → RunExported (both s s₂) (both y y₂) sheet source (both m m₂) x₂

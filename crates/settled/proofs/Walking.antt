@@ -11,10 +11,6 @@ use Rattle.utility_types.specs.declared.WalkEvent.TheVariants.{Enter, Leave}
 use Rattle.green.specs.Store.{Store, entries, both}
 use Rattle.preorder.specs.declared.state.Coming.{Coming}
 use Rattle.preorder.specs.declared.state.Coming.TheVariants as coming
-use Rattle.preorder.specs.declared.state.Moved.{Moved}
-use Rattle.preorder.specs.declared.state.Moved.TheVariants as moved
-use Rattle.preorder.specs.declared.state.Answer.{Answer}
-use Rattle.preorder.specs.declared.state.Answer.TheVariants as event
 use Rattle.preorder.specs.Walks.{coming_of, begun_as, answer_as, EventNamed}
 use Rattle.preorder_many.specs.declared.state.Stop.{Stop}
 use Rattle.preorder_many.specs.declared.state.Stop.TheVariants as stop
@@ -25,6 +21,10 @@ use Rattle.abi.specs.WalkWords.{coming_word, moved_on, begun_in, skipped_in, wal
 use Rattle.notes_tree_ffi.specs.Goes.{walk_state}
 use Rattle.notes_tree_ffi.specs.Exports.{WalkBegins, WalkSkips, WalkGives, WalkSteps}
 use Rattle.abi.proofs.Telling.{same_output}
+use Rattle.std.specs.Prelude.{Ok, Err, Some, None, Option as Optional}
+use Rattle.utility_types.specs.Numbers.{OrRefusal}
+use Rattle.utility_types.specs.declared.WalkEvent.{WalkEvent as Event}
+use Rattle.preorder.specs.declared.state.Ahead.{Ahead}
 
 -- begin
 abbrev word_of : preorder.Coming → ℕ
@@ -43,17 +43,17 @@ abbrev begun_from : List ℕ → ℕ → Result Walk → List ℕ
 begun_from w root (ok v) = sets w 0 (word_of v.coming ∷ v.depth ∷ v.depth ∷ root ∷ bit v.tokens ∷ [])
 begun_from w root (refused n) = w
 
-begun_from_lem : (w : List ℕ) (root : ℕ) (tokens : Bool) (l : List ℕ) (x : Moved) → begun_in w root tokens x ≡ begun_from w root (begun_as tokens l x)
-begun_from_lem w root tokens l (moved.To a) = ap (λ n. sets w 0 (n ∷ a.depth ∷ a.depth ∷ root ∷ bit tokens ∷ [])) (word_of_lem a.coming)
-begun_from_lem w root tokens l (moved.Refused x) = refl
+begun_from_lem : (w : List ℕ) (root : ℕ) (tokens : Bool) (l : List ℕ) (x : OrRefusal Ahead) → begun_in w root tokens x ≡ begun_from w root (begun_as tokens l x)
+begun_from_lem w root tokens l (Ok a) = ap (λ n. sets w 0 (n ∷ a.depth ∷ a.depth ∷ root ∷ bit tokens ∷ [])) (word_of_lem a.coming)
+begun_from_lem w root tokens l (Err x) = refl
 
 abbrev outcome_from : {A : Type 0} → Result A → ℕ
 outcome_from (ok v) = done_outcome
 outcome_from (refused n) = 100 + n
 
-begun_outcome : (tokens : Bool) (l : List ℕ) (x : Moved) → (moved_told x).outcome ≡ outcome_from (begun_as tokens l x)
-begun_outcome tokens l (moved.To a) = refl
-begun_outcome tokens l (moved.Refused x) = refl
+begun_outcome : (tokens : Bool) (l : List ℕ) (x : OrRefusal Ahead) → (moved_told x).outcome ≡ outcome_from (begun_as tokens l x)
+begun_outcome tokens l (Ok a) = refl
+begun_outcome tokens l (Err x) = refl
 
 pub begin_once : (s : Store) (root : ℕ) (tokens : Bool) (depth : ℕ) (l w w₁ w₂ : List ℕ) (x₁ x₂ : ℕ) → WalkBegins s root tokens depth l (both w w₁) x₁ → WalkBegins s root tokens depth l (both w w₂) x₂
     → SameOutput w₁ w₂ x₁ x₂
@@ -69,13 +69,13 @@ abbrev skipped_from : List ℕ → Result (Unit {0}) → WalkState → List ℕ
 skipped_from w (ok u) v = moved_on w v.coming v.depth
 skipped_from w (refused n) v = w
 
-skipped_from_lem : (w : List ℕ) (v : WalkState) (x : Moved) → skipped_in w x ≡ skipped_from w (skip_answer x) (skipped_to v x)
-skipped_from_lem w v (moved.To a) = refl
-skipped_from_lem w v (moved.Refused x) = refl
+skipped_from_lem : (w : List ℕ) (v : WalkState) (x : OrRefusal Ahead) → skipped_in w x ≡ skipped_from w (skip_answer x) (skipped_to v x)
+skipped_from_lem w v (Ok a) = refl
+skipped_from_lem w v (Err x) = refl
 
-skip_outcome : (x : Moved) → (moved_told x).outcome ≡ outcome_from (skip_answer x)
-skip_outcome (moved.To a) = refl
-skip_outcome (moved.Refused x) = refl
+skip_outcome : (x : OrRefusal Ahead) → (moved_told x).outcome ≡ outcome_from (skip_answer x)
+skip_outcome (Ok a) = refl
+skip_outcome (Err x) = refl
 
 abbrev skip_of : WalkAnswer → Result (Unit {0})
 skip_of (WalkAnswer.next r) = refused 0
@@ -140,11 +140,11 @@ told_event d (ok (preorder.WalkEvent.leave s)) = told leave_outcome (s.start ∷
 told_event d (ok preorder.WalkEvent.ended) = told none_outcome []
 told_event d (refused n) = told (100 + n) []
 
-event_told_lem : (d : ℕ) (l : List ℕ) (a : Answer) → EventNamed d a → event_told a ≡ told_event d (answer_as l a)
-event_told_lem d l (event.Event (Enter e)) h = rw h refl
-event_told_lem d l (event.Event (Leave e)) h = rw h refl
-event_told_lem d l event.Ended h = refl
-event_told_lem d l (event.Refused x) h = refl
+event_told_lem : (d : ℕ) (l : List ℕ) (a : OrRefusal (Optional Event)) → EventNamed d a → event_told a ≡ told_event d (answer_as l a)
+event_told_lem d l (Ok (Some (Enter e))) h = rw h refl
+event_told_lem d l (Ok (Some (Leave e))) h = rw h refl
+event_told_lem d l (Ok None) h = refl
+event_told_lem d l (Err x) h = refl
 
 abbrev next_of : WalkAnswer → Result WalkEvent
 next_of (WalkAnswer.next r) = r

@@ -11,12 +11,12 @@ use Rattle.definitions.specs.SyntaxText.{SyntaxText, of_text, len, slice, part, 
 use Rattle.definitions.specs.Query.{TextQuestion, Answer, ask_text}
 use Rattle.green.specs.Store.{Store, entries}
 use Rattle.cursor.specs.declared.position.Cursor.{Cursor}
-use Rattle.syntax_text.specs.declared.text.Checked.{Checked}
-use Rattle.syntax_text.specs.declared.text.Checked.TheVariants.{Within}
 use Rattle.syntax_text.specs.Text.{text_at, asked_text, Checks}
 use Rattle.syntax_text.specs.Piece.{bytes_at}
 use Rattle.syntax_text.proofs.Testing.{Single, answered, text_within}
 use Rattle.syntax_text.proofs.Finding.{held_bytes}
+use Rattle.std.specs.Prelude.{Ok}
+use Rattle.utility_types.specs.Numbers.{OrRefusal}
 
 -- the slice f..g of the text x, whose bytes are bs
 abbrev sliced : List ℕ → SyntaxText → ℕ → ℕ → Result Answer
@@ -35,7 +35,7 @@ slice_is f g t x =
     go false true y = refl
     go false false y = refl
 
-module _ {s : Store} {r depth : ℕ} {l : List ℕ} {a b : ℕ} {x : Checked} (c : Checks s r depth l a b x) {p : Cursor} (h : x ≡ Within p) (f g : ℕ) where
+module _ {s : Store} {r depth : ℕ} {l : List ℕ} {a b : ℕ} {x : OrRefusal Cursor} (c : Checks s r depth l a b x) {p : Cursor} (h : x ≡ Ok p) (f g : ℕ) where
   abbrev own : List ℕ
   own = part p.start (bytes_at (entries s) p) a b
 

@@ -9,7 +9,7 @@ ghost use Rattle.utility_types.specs.Numbers.{refusal_number};
 pub mod number;
 
 // A kind, as in rowan: a number of 16 bits, told apart from other numbers by its type.
-#[derive(Clone, Copy)]
+#[derive(Clone, Copy, PartialEq, Eq)]
 pub struct SyntaxKind(pub u16);
 
 // Which of the two a record's number names.
@@ -90,11 +90,4 @@ pub fn refusal_number(r: Refusal) -> u64
         Refusal::NoRoom => 15,
         Refusal::SkipBeforeFirst => 16,
     }
-}
-
-// What a call that makes records answers: the number of its element, or why it is turned down.
-#[derive(Clone, Copy)]
-pub enum Made {
-    Number(usize),
-    Refused(Refusal),
 }

@@ -3,4 +3,4 @@ use Rattle.edits.proofs.Edits.{done_as, remove_splice}
 use Rattle.edits.proofs.remove_child.Goals as goal
 
 pub returns : goal.returns
-returns c = done_as (remove_splice c.requires _ _ _ c.after.ensures) c.splice_children.ensures
+returns c = done_as (remove_splice c.requires _ _ _ c.saturating_add-after.ensures) c.splice_children.ensures

@@ -10,10 +10,10 @@ pub returns-then-count-gt4096 : goal.returns-then-count-gt4096
 returns-then-count-gt4096 c = node_many c.requires.0 _ _ c.if-count-gt4096.true
 
 pub over_children-over-requires : goal.over_children-over-requires
-over_children-over-requires c = record { valid = c.requires.0; all_below = (events_below _ _ c.requires.1, omega (arith, c.if-count-gt4096.false)) }
+over_children-over-requires c = (events_below _ _ c.requires.1, omega (arith, c.if-count-gt4096.false))
 
-pub returns-in-Found : goal.returns-in-Found
-returns-in-Found c = event_found c.requires.0 (node_entry true _ c.args.kind.0 c.args.numbers.now) _ c.find_node-found.ensures c.in-Found.is
+pub returns-in-Some : goal.returns-in-Some
+returns-in-Some c = event_found c.requires.0 (node_entry true _ c.args.kind.0 c.args.numbers.now) _ c.find_node-found.ensures c.in-Some.is
 
 pub returns-then-not-is_within : goal.returns-then-not-is_within
 returns-then-not-is_within c = node_large c.requires.0 _ _ _ c.find_node-found.ensures c.in_default.is (omega (arith, c.if-count-gt4096.false)) c.over_children-over.ensures.measure c.is_within.ensures c.if-not-is_within.true-raw

@@ -5,10 +5,10 @@ use Rattle.node_cache.proofs.TokenEvents.{token_hash_lem, token_large, token_ful
 use Rattle.node_cache.proofs.token.Goals as goal
 
 pub find_token-found-requires : goal.find_token-found-requires
-find_token-found-requires c = (c.requires, token_hash_lem c.of_token-x.ensures)
+find_token-found-requires c = token_hash_lem c.of_token-x.ensures
 
-pub returns-in-Found : goal.returns-in-Found
-returns-in-Found c = event_found c.requires (token_entry c.args.kind.0 c.args.src.now) _ c.find_token-found.ensures c.in-Found.is
+pub returns-in-Some : goal.returns-in-Some
+returns-in-Some c = event_found c.requires (token_entry c.args.kind.0 c.args.src.now) _ c.find_token-found.ensures c.in-Some.is
 
 pub returns-then-src-gt4294967295 : goal.returns-then-src-gt4294967295
 returns-then-src-gt4294967295 c = token_large c.requires _ _ _ c.find_token-found.ensures c.in_default.is c.if-src-gt4294967295.true

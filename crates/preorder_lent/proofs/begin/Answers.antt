@@ -2,8 +2,8 @@
 use Rattle.preorder_lent.proofs.Passing.{begun, not_begun}
 use Rattle.preorder_lent.proofs.begin.Goals as goal
 
-pub returns-in-To : goal.returns-in-To
-returns-in-To c = begun c.begin-moved.ensures _ c.in-To.is
+pub returns-in-Ok : goal.returns-in-Ok
+returns-in-Ok c = begun c.begin-moved.ensures _ c.in-Ok.is
 
-pub returns-in-Refused : goal.returns-in-Refused
-returns-in-Refused c = not_begun c.begin-moved.ensures _ c.in-Refused.is
+pub returns-in-Err : goal.returns-in-Err
+returns-in-Err c = not_begun c.begin-moved.ensures _ c.in-Err.is

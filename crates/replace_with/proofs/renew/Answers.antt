@@ -9,9 +9,6 @@ use Rattle.replace_with.proofs.renew.Goals as goal
 pub loop-d-init : goal.loop-d-init
 loop-d-init c = renewing_none c.requires.0
 
-pub overflow_sub-d : goal.overflow_sub-d
-overflow_sub-d c = omega arith
-
 pub offset_bounds-numbers-d : goal.offset_bounds-numbers-d
 offset_bounds-numbers-d c = let w = before_step c.requires.0 c.loop-d.invariant c.loop-d-test.true in omega (arith, w.1, c.requires.0.climbs.room)
 
@@ -27,20 +24,17 @@ bounds-path-d c = let w = before_step c.requires.0 c.loop-d.invariant c.loop-d-t
 pub remembered-x-requires : goal.remembered-x-requires
 remembered-x-requires c = let w = before_step c.requires.0 c.loop-d.invariant c.loop-d-test.true in omega (arith, w.1, c.requires.0.climbs.deep, c.requires.1)
 
-pub narrow-requires : goal.narrow-requires
-narrow-requires c = let w = before_step c.requires.0 c.loop-d.invariant c.loop-d-test.true in at_small c.requires.0 w.0 w.1
+pub overflow_cast-below : goal.overflow_cast-below
+overflow_cast-below c = let w = before_step c.requires.0 c.loop-d.invariant c.loop-d-test.true in omega (arith, at_small c.requires.0 w.0 w.1)
 
 pub overflow_add-i : goal.overflow_add-i
-overflow_add-i c = let w = before_step c.requires.0 c.loop-d.invariant c.loop-d-test.true in omega (arith, index c.requires.0 w.0 w.1 c.widen-i.ensures.0, children_few (ancestor c.requires.0.climbs w.1))
+overflow_add-i c = let w = before_step c.requires.0 c.loop-d.invariant c.loop-d-test.true in omega (arith, index c.requires.0 w.0 w.1 refl, children_few (ancestor c.requires.0.climbs w.1))
 
 pub push_spliced-requires : goal.push_spliced-requires
-push_spliced-requires c = let w = before_step c.requires.0 c.loop-d.invariant c.loop-d-test.true in splice_ready c.requires.0 w.0 w.1 c.widen-i.ensures.0 c.narrow.ensures c.remembered-x.ensures
-
-pub loop-d-smaller : goal.loop-d-smaller
-loop-d-smaller c = omega (arith, c.loop-d-test.true)
+push_spliced-requires c = let w = before_step c.requires.0 c.loop-d.invariant c.loop-d-test.true in splice_ready c.requires.0 w.0 w.1 refl refl c.remembered-x.ensures
 
 pub loop-d-preserved : goal.loop-d-preserved
-loop-d-preserved c = let w = before_step c.requires.0 c.loop-d.invariant c.loop-d-test.true in renewing_one c.requires.0 w.0 w.1 c.widen-i.ensures.0 c.narrow.ensures c.remembered-x.ensures c.push_spliced.ensures refl c.records-1.given c.children-1.given refl
+loop-d-preserved c = let w = before_step c.requires.0 c.loop-d.invariant c.loop-d-test.true in renewing_one c.requires.0 w.0 w.1 refl refl c.remembered-x.ensures c.push_spliced.ensures refl c.records-1.given c.children-1.given refl
 
 pub shape_of-records : goal.shape_of-records
 shape_of-records c = c.loop-d.invariant.records_length

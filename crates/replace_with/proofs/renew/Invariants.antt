@@ -5,6 +5,3 @@ use Rattle.replace_with.proofs.renew.Given as goal
 
 abbrev pub invariant-loop-d : goal.invariant-loop-d
 invariant-loop-d l = Renewing (store l.initial.records l.initial.children l.text l.initial.used) (store l.records l.children l.text l.used) (take l.depth l.path) l.numbers l.m l.at l.d
-
-abbrev pub decreases-loop-d : goal.decreases-loop-d
-decreases-loop-d l = l.d

@@ -1,4 +1,5 @@
+use Rattle.std.proofs.Common.{◌-◌}
 use Rattle.replay.proofs.stores.Given as goal
 
-abbrev pub decreases-loop-after : goal.decreases-loop-after
-decreases-loop-after l = l.left
+abbrev pub decreases-loop-next : goal.decreases-loop-next
+decreases-loop-next l = 1000000 - l.turns.next.byte

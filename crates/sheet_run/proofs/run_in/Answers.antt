@@ -17,7 +17,7 @@ u32_at-n-requires c = omega (arith, well_formed c.args.sheet.now c.args.source.n
 
 pub loop-i-init : goal.loop-i-init
 unfolding event_count
-loop-i-init c = going_start _ (new_standing c.requires.0 c.requires.1 _ c.clear.ensures) (sym c.is_malformed.ensures ∙ c.if-is_malformed.false) (new_builder c.requires.0 c.requires.1 _ c.clear.ensures) _ c.u32_at-n.ensures
+loop-i-init c = going_start _ (new_standing c.requires.0 c.requires.1 _ (c.fill.ensures.after (λ y e. e))) (sym c.is_malformed.ensures ∙ c.if-is_malformed.false) (new_builder c.requires.0 c.requires.1 _ (c.fill.ensures.after (λ y e. e))) _ c.u32_at-n.ensures
 
 pub step-done-requires : goal.step-done-requires
 step-done-requires c = record { builder_valid = c.loop-i.invariant.builder_valid; ahead = going_ahead c.loop-i.invariant c.loop-i-test.true }

@@ -1,5 +1,5 @@
 -- `moved` meets its contract.
 use Rattle.abi.proofs.answer.moved.Goals as goal
 
-pub returns-in-Refused : goal.returns-in-Refused
-returns-in-Refused c = rw c.in-Refused.is c.refused.ensures
+pub returns-in-Err : goal.returns-in-Err
+returns-in-Err c = rw c.in-Err.is c.refused.ensures

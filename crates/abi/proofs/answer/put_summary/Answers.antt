@@ -3,8 +3,8 @@ use Rattle.abi.proofs.Telling.{wordless}
 use mathlib.Core.Path.{refl}
 use Rattle.abi.proofs.answer.put_summary.Goals as goal
 
-pub returns-in-Of : goal.returns-in-Of
-returns-in-Of c = rw c.in-Of.is (record { outcome = c.kind_of.ensures; words = refl })
+pub returns-in-Ok : goal.returns-in-Ok
+returns-in-Ok c = rw c.in-Ok.is (record { outcome = c.kind_of.ensures; words = refl })
 
-pub returns-in-Refused : goal.returns-in-Refused
-returns-in-Refused c = rw c.in-Refused.is (wordless c.refused.ensures)
+pub returns-in-Err : goal.returns-in-Err
+returns-in-Err c = rw c.in-Err.is (wordless c.refused.ensures)

@@ -1,5 +1,5 @@
 -- `begin` meets its contract.
 use Rattle.abi.proofs.walk.begin.Goals as goal
 
-pub returns-in-To : goal.returns-in-To
-returns-in-To c = rw (c.in-To.is, c.coming_word.ensures, c.bit.ensures)
+pub returns-in-Ok : goal.returns-in-Ok
+returns-in-Ok c = rw (c.in-Ok.is, c.coming_word.ensures, c.bit.ensures)

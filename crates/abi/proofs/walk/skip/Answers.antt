@@ -1,5 +1,5 @@
 -- `skip` meets its contract.
 use Rattle.abi.proofs.walk.skip.Goals as goal
 
-pub returns-in-To : goal.returns-in-To
-returns-in-To c = rw c.in-To.is c.move_on.ensures
+pub returns-in-Ok : goal.returns-in-Ok
+returns-in-Ok c = rw c.in-Ok.is c.move_on.ensures

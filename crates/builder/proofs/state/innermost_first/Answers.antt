@@ -7,4 +7,4 @@ pub returns-then-open-eq0 : goal.returns-then-open-eq0
 returns-then-open-eq0 c = innermost_none c.requires c.if-open-eq0.true
 
 pub returns : goal.returns
-returns c = c.widen.ensures.0 ∙ innermost_last c.requires c.if-open-eq0.false
+returns c = innermost_last c.requires c.if-open-eq0.false

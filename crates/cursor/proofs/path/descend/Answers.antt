@@ -1,38 +1,53 @@
 -- `descend` meets its contract.
 use native.Mathlib.Omega.{arith}
-use mathlib.Core.Path.{refl, ap, ◌∙◌}
+use mathlib.Core.Path.{ap, ◌∙◌}
+use Prim.Native.Nat.{◌<◌}
+use lib.ListN.{take, get_or}
+use lib.Seq.{length-take-le, get_or-take}
 use Rattle.cursor.specs.Path.{is_remembered}
 use Rattle.cursor.proofs.Positions.{inner, leaf}
 use Rattle.cursor.proofs.Paths.{gone_none, at_token_lem, past_children, gone_beside, gone_on, arrived, facts_at_end}
 use Rattle.cursor.proofs.path.descend.Goals.{else-is_remembered, then-is_remembered}
 use Rattle.cursor.proofs.path.descend.Goals as goal
 
-pub loop-d-init : goal.loop-d-init
-loop-d-init c = gone_none c.requires.0
+pub loop-index-init : goal.loop-index-init
+loop-index-init c = gone_none c.requires.0
 
 pub node_or_token-requires : goal.node_or_token-requires
-node_or_token-requires c = c.loop-d.invariant.placed
+node_or_token-requires c = c.loop-index.invariant.placed
 
-pub returns-in_default : goal.returns-in_default
-returns-in_default c = record { result_value = at_token_lem c.loop-d.invariant c.requires.1 c.loop-d-test.true (leaf c.loop-d.invariant.placed c.node_or_token.ensures c.in_default.is); when_located = refl }
+pub returns-in_default-clause-result_value : goal.returns-in_default-clause-result_value
+returns-in_default-clause-result_value c =
+    let h = rw (length-take-le c.args.depth c.args.path.now c.requires.1) at c.loop-index-test.true in
+    at_token_lem c.loop-index.invariant c.requires.1 h (leaf c.loop-index.invariant.placed c.node_or_token.ensures c.in_default.is)
 
 pub child_count-count-requires : goal.child_count-count-requires
-child_count-count-requires c = inner c.loop-d.invariant.placed c.node_or_token.ensures c.in-Node.is
+child_count-count-requires c = inner c.loop-index.invariant.placed c.node_or_token.ensures c.in-Node.is
 
-pub returns-then-count-i : goal.returns-then-count-i
-returns-then-count-i c = record { result_value = past_children c.loop-d.invariant c.requires.1 c.loop-d-test.true (inner c.loop-d.invariant.placed c.node_or_token.ensures c.in-Node.is) c.widen-i.ensures.0 (omega (arith, c.child_count-count.ensures.0, c.if-count-i.true)); when_located = refl }
+pub returns-then-count-i-clause-result_value : goal.returns-then-count-i-clause-result_value
+returns-then-count-i-clause-result_value c =
+    let a = c.args in
+    let h = rw (length-take-le a.depth a.path.now c.requires.1) at c.loop-index-test.true in
+    past_children c.loop-index.invariant c.requires.1 h (inner c.loop-index.invariant.placed c.node_or_token.ensures c.in-Node.is) (get_or-take a.depth a.path.now c.loop-index.index-index 0 h)
+    (omega (arith, c.child_count-count.ensures.0, c.if-count-i.true))
 
-pub is_remembered-requires : goal.is_remembered-requires
-is_remembered-requires c = c.widen-i.ensures.1
+pub child-at-requires-clause-inner : goal.child-at-requires-clause-inner
+child-at-requires-clause-inner c = inner c.loop-index.invariant.placed c.node_or_token.ensures c.in-Node.is
 
-pub child-at-requires : goal.child-at-requires
-child-at-requires c = record { inner = inner c.loop-d.invariant.placed c.node_or_token.ensures c.in-Node.is; k_bound = omega (arith, c.child_count-count.ensures.0, c.if-count-i.false) }
+pub loop-index-preserved : goal.loop-index-preserved
+loop-index-preserved c =
+    let a = c.args in
+    let g = c.loop-index.invariant in
+    let h = rw (length-take-le a.depth a.path.now c.requires.1) at c.loop-index-test.true in
+    let i = inner g.placed c.node_or_token.ensures c.in-Node.is in
+    let k = get_or-take a.depth a.path.now c.loop-index.index-index 0 h in
+    let m : get_or (take a.depth a.path.now) c.loop-index.index-index 0 < c.child_count-count.result = omega (arith, c.if-count-i.false) in
+    let m' = rw c.child_count-count.ensures.0 at m in
+    let b = c.is_remembered.ensures ∙ ap (is_remembered a.remember (get_or (take a.depth a.path.now) c.loop-index.index-index 0)) c.child_count-count.ensures.0 in
+    elim c.if-is_remembered.branch [ then-is_remembered w ↦ gone_beside g c.requires.1 h i k m' c.child-at.ensures b w.if-is_remembered.true w.remembered-is | else-is_remembered w ↦ gone_on g c.requires.1 h i k m' c.child-at.ensures b w.if-is_remembered.false w.remembered-is ]
 
-pub loop-d-preserved : goal.loop-d-preserved
-loop-d-preserved c =
-    let i = inner c.loop-d.invariant.placed c.node_or_token.ensures c.in-Node.is in
-    let b = c.is_remembered.ensures ∙ ap (is_remembered c.args.remember c.widen-i.result) c.child_count-count.ensures.0 in
-    elim c.if-is_remembered.branch [ then-is_remembered w ↦ gone_beside c.loop-d.invariant c.requires.1 c.loop-d-test.true i c.widen-i.ensures.0 (omega (arith, c.child_count-count.ensures.0, c.if-count-i.false)) c.child-at.ensures b w.if-is_remembered.true w.remembered-is | else-is_remembered w ↦ gone_on c.loop-d.invariant c.requires.1 c.loop-d-test.true i c.widen-i.ensures.0 (omega (arith, c.child_count-count.ensures.0, c.if-count-i.false)) c.child-at.ensures b w.if-is_remembered.false w.remembered-is ]
+pub returns-clause-result_value : goal.returns-clause-result_value
+returns-clause-result_value c = arrived c.loop-index.invariant c.requires.1 (rw (length-take-le c.args.depth c.args.path.now c.requires.1) at c.loop-index-test.false)
 
-pub returns : goal.returns
-returns c = record { result_value = arrived c.loop-d.invariant c.requires.1 c.loop-d-test.false; when_located = facts_at_end c.loop-d.invariant c.requires.1 c.loop-d-test.false }
+pub returns-clause-when_located : goal.returns-clause-when_located
+returns-clause-when_located c = facts_at_end c.loop-index.invariant c.requires.1 (rw (length-take-le c.args.depth c.args.path.now c.requires.1) at c.loop-index-test.false)

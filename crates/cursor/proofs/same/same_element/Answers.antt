@@ -1,15 +1,17 @@
 -- `same_element` meets its contract.
+use mathlib.Core.Path.{refl}
+use Rattle.utility_types.proofs.Passing.{passed_on}
 use Rattle.cursor.proofs.Sameness.{first_absent, second_absent, same_number, other_number}
 use Rattle.cursor.proofs.same.same_element.Goals as goal
 
-pub returns-in-Refused : goal.returns-in-Refused
-returns-in-Refused c = first_absent c.locate-first.ensures c.in-Refused.is _ _ _
+pub returns-in_err-one : goal.returns-in_err-one
+returns-in_err-one c = rw (passed_on _ c.from_residual.ensures.1) (first_absent c.in_err-one.ensures refl _ _ _)
 
-pub returns-in-Refused-second : goal.returns-in-Refused-second
-returns-in-Refused-second c = second_absent c.locate-first.ensures c.locate-second.ensures c.in-At.is c.in-Refused-second.is
+pub returns-in_err-other : goal.returns-in_err-other
+returns-in_err-other c = rw (passed_on _ c.from_residual-in_err-other.ensures.1) (second_absent c.in_ok-one.ensures c.in_err-other.ensures refl refl)
 
 pub returns-then-a-b : goal.returns-then-a-b
-returns-then-a-b c = same_number c.locate-first.ensures c.locate-second.ensures c.in-At.is c.in-At-second.is c.if-a-b.true
+returns-then-a-b c = same_number c.in_ok-one.ensures c.in_ok-other.ensures refl refl c.if-a-b.true
 
 pub returns-else-a-b : goal.returns-else-a-b
-returns-else-a-b c = other_number c.locate-first.ensures c.locate-second.ensures c.in-At.is c.in-At-second.is c.if-a-b.false
+returns-else-a-b c = other_number c.in_ok-one.ensures c.in_ok-other.ensures refl refl c.if-a-b.false

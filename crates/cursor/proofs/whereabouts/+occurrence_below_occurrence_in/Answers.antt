@@ -27,11 +27,11 @@ occurrence_below-offset_bounds-path-depth t c = omega (arith, c.requires.inner.0
 pub occurrence_below-bounds-path-depth : goal.occurrence_below-bounds-path-depth
 occurrence_below-bounds-path-depth t c = level_there c.child-child.ensures (search (rules, same_length c.loop-i.invariant))
 
-pub occurrence_below-shape_of-path-in-At : goal.occurrence_below-shape_of-path-in-At
-occurrence_below-shape_of-path-in-At t c = simp length-set (search (rules, same_length c.loop-i.invariant))
+pub occurrence_below-shape_of-path-in-Some : goal.occurrence_below-shape_of-path-in-Some
+occurrence_below-shape_of-path-in-Some t c = simp length-set (search (rules, same_length c.loop-i.invariant))
 
-pub occurrence_below-returns-in-At : goal.occurrence_below-returns-in-At
-occurrence_below-returns-in-At t c = found_below c.loop-i.invariant (omega (arith, c.child_count-count.ensures.0, c.loop-i-test.true)) c.child-child.ensures c.occurrence_in-found.ensures c.in-At.is (search (rules, same_length c.loop-i.invariant))
+pub occurrence_below-returns-in-Some : goal.occurrence_below-returns-in-Some
+occurrence_below-returns-in-Some t c = found_below c.loop-i.invariant (omega (arith, c.child_count-count.ensures.0, c.loop-i-test.true)) c.child-child.ensures c.occurrence_in-found.ensures c.in-Some.is (search (rules, same_length c.loop-i.invariant))
 
 pub occurrence_below-loop-i-preserved : goal.occurrence_below-loop-i-preserved
 occurrence_below-loop-i-preserved t c = pass c.loop-i.invariant (omega (arith, c.child_count-count.ensures.0, c.loop-i-test.true)) c.child-child.ensures c.occurrence_in-found.ensures c.in_default.is

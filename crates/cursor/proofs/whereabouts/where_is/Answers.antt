@@ -1,20 +1,19 @@
 -- `where_is` meets its contract.
+use mathlib.Core.Path.{refl}
+use Rattle.utility_types.proofs.Passing.{passed_on}
 use Rattle.cursor.proofs.Paths.{root_accepted}
-use Rattle.cursor.proofs.Occurring.{number_refused, root_no_node, where_none, where_found}
+use Rattle.cursor.proofs.Occurring.{number_refused, root_no_node, where_answered}
 use borrow.Author.Rules.{rules}
 use Rattle.cursor.proofs.whereabouts.where_is.Goals as goal
 
-pub returns-then-used-number : goal.returns-then-used-number
-returns-then-used-number c = number_refused c.requires _ _ _ c.if-used-number.true
+pub returns-then-store-number : goal.returns-then-store-number
+returns-then-store-number c = number_refused c.args.store.valid _ _ _ c.if-store-number.true
 
-pub returns-in-Refused : goal.returns-in-Refused
-returns-in-Refused c = root_no_node c.requires _ _ _ c.root_node-top.ensures c.in-Refused.is
+pub returns-in_err-at : goal.returns-in_err-at
+returns-in_err-at c = rw (passed_on _ c.from_residual.ensures.1) (root_no_node c.args.store.valid _ _ _ c.in_err-at.ensures refl)
 
 pub occurrence_in-found-requires : goal.occurrence_in-found-requires
-occurrence_in-found-requires c = ((root_accepted c.root_node-top.ensures c.in-At.is).1.placed, search rules)
-
-pub returns-in_default : goal.returns-in_default
-returns-in_default c = where_none c.requires _ _ _ c.root_node-top.ensures c.if-used-number.false c.in-At.is c.occurrence_in-found.ensures c.in_default.is
+occurrence_in-found-requires c = ((root_accepted c.in_ok-at.ensures refl).1.placed, search rules)
 
 pub returns : goal.returns
-returns c = where_found c.requires _ _ _ c.root_node-top.ensures c.if-used-number.false c.in-At.is c.occurrence_in-found.ensures c.in-At-found.is
+returns c = where_answered c.args.store.valid _ _ _ c.in_ok-at.ensures c.if-store-number.false refl c.occurrence_in-found.ensures

@@ -1,4 +1,6 @@
 -- `last_child` meets its contract.
+use Rattle.utility_types.proofs.Passing.{passed_on}
+use mathlib.Core.Path.{refl}
 use native.Mathlib.Omega.{arith}
 use mathlib.Core.Bool.{false}
 use Rattle.utility_types.specs.declared.Direction.TheVariants.{Prev}
@@ -8,14 +10,14 @@ use Rattle.cursor_node.proofs.ChildrenAsked.{no_children, child_asked}
 use borrow.Author.Rules.{rules}
 use Rattle.cursor_node.proofs.children.last_child.Goals as goal
 
-pub returns-in-Refused : goal.returns-in-Refused
-returns-in-Refused c = no_children c.locate_node-found.ensures Prev false c.in-Refused.is
+pub returns-in_err-at : goal.returns-in_err-at
+returns-in_err-at c = rw (passed_on _ c.from_residual.ensures.1) (no_children c.in_err-at.ensures Prev false refl)
 
 pub child_count-count-requires : goal.child_count-count-requires
-child_count-count-requires c = (node_facts c.locate_node-found.ensures c.in-At.is).inner
+child_count-count-requires c = (node_facts c.in_ok-at.ensures refl).inner
 
 pub nearest_child-requires : goal.nearest_child-requires
-nearest_child-requires c = record { inner = ((node_facts c.locate_node-found.ensures c.in-At.is).inner, search rules); left_bound = omega (arith, c.child_count-count.ensures.0) }
+nearest_child-requires c = record { inner = ((node_facts c.in_ok-at.ensures refl).inner, search rules); left_bound = omega (arith, c.child_count-count.ensures.0) }
 
 pub returns : goal.returns
-returns c = told_as c.nearest_child.ensures (child_asked c.locate_node-found.ensures Prev false c.in-At.is c.child_count-count.ensures.0)
+returns c = told_as c.nearest_child.ensures (child_asked c.in_ok-at.ensures Prev false refl c.child_count-count.ensures.0)

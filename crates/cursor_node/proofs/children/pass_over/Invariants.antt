@@ -1,9 +1,6 @@
-use Rattle.green.specs.Store.{store}
+use Rattle.green.specs.View.{view}
 use Rattle.cursor_node.proofs.Passing.{Passed}
 use Rattle.cursor_node.proofs.children.pass_over.Given as goal
 
-abbrev pub invariant-loop-k : goal.invariant-loop-k
-invariant-loop-k l = Passed (store l.records l.children l.text l.used) l.at l.direction l.left l.k
-
-abbrev pub decreases-loop-k : goal.decreases-loop-k
-decreases-loop-k l = l.k
+abbrev pub invariant-loop-before : goal.invariant-loop-before
+invariant-loop-before l = Passed (view l.store) l.at l.direction l.left l.before

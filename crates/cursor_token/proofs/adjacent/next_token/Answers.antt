@@ -1,35 +1,35 @@
 -- `next_token` meets its contract.
+use Rattle.utility_types.proofs.Passing.{passed_on}
 use native.Mathlib.Omega.{arith}
-use mathlib.Core.Path.{refl, ap, ◌∙◌}
+use mathlib.Core.Path.{refl}
 use Rattle.utility_types.specs.declared.Direction.TheVariants.{Next}
 use Rattle.cursor.proofs.Positions.{inner, leaf}
 use Rattle.cursor.proofs.Telling.{none_told, told_as}
 use Rattle.cursor.proofs.Asking.{refused_asked, located_facts, refused_as}
-use Rattle.cursor_token.specs.Adjacent.{beside_index}
 use Rattle.cursor_token.proofs.Tokens.{node_refused, none_adjacent, parent_level, beside_known, beside_asked}
 use borrow.Author.Rules.{rules}
 use Rattle.cursor_token.proofs.adjacent.next_token.Goals as goal
 
-pub returns-in-Refused : goal.returns-in-Refused
-returns-in-Refused c = refused_asked c.locate-found.ensures c.in-Refused.is _
+pub returns-in_err-place : goal.returns-in_err-place
+returns-in_err-place c = rw (passed_on _ c.from_residual.ensures.1) (refused_asked c.in_err-place.ensures refl _)
 
 pub node_or_token-requires : goal.node_or_token-requires
-node_or_token-requires c = (located_facts c.locate-found.ensures c.in-At.is).placed
+node_or_token-requires c = (located_facts c.in_ok-place.ensures refl).placed
 
 pub returns-in_default : goal.returns-in_default
-returns-in_default c = refused_as (node_refused Next c.locate-found.ensures refl c.in-At.is (inner (located_facts c.locate-found.ensures c.in-At.is).placed c.node_or_token.ensures c.in_default.is).node)
+returns-in_default c = refused_as (node_refused Next c.in_ok-place.ensures refl refl (inner (located_facts c.in_ok-place.ensures refl).placed c.node_or_token.ensures c.in_default.is).node)
 
 pub returns-in_default-above : goal.returns-in_default-above
-returns-in_default-above c = told_as (none_told refl) (none_adjacent Next c.locate-found.ensures refl c.in-At.is (leaf (located_facts c.locate-found.ensures c.in-At.is).placed c.node_or_token.ensures c.in-Token.is) c.in_default-above.is)
+returns-in_default-above c = told_as (none_told refl) (none_adjacent Next c.in_ok-place.ensures refl refl (leaf (located_facts c.in_ok-place.ensures refl).placed c.node_or_token.ensures c.in-Token.is) c.in_default-above.is)
 
 pub offset_bounds-path-level : goal.offset_bounds-path-level
-offset_bounds-path-level c = omega (arith, parent_level Next c.locate-found.ensures refl c.in-At.is c.in-Of.is)
+offset_bounds-path-level c = omega (arith, parent_level Next c.in_ok-place.ensures refl refl c.in-Some.is)
 
 pub bounds-path-level : goal.bounds-path-level
-bounds-path-level c = omega (arith, parent_level Next c.locate-found.ensures refl c.in-At.is c.in-Of.is)
+bounds-path-level c = omega (arith, parent_level Next c.in_ok-place.ensures refl refl c.in-Some.is)
 
 pub next_edge-requires : goal.next_edge-requires
-next_edge-requires c = record { inner = beside_known Next c.locate-found.ensures refl c.in-At.is c.in-Of.is (c.beside_index-k.ensures ∙ ap (beside_index Next) c.widen.ensures.0); in_bounds = search rules }
+next_edge-requires c = record { inner = beside_known Next c.in_ok-place.ensures refl refl c.in-Some.is c.beside_index-k.ensures; in_bounds = search rules }
 
 pub returns : goal.returns
-returns c = told_as c.next_edge.ensures (beside_asked Next c.locate-found.ensures refl c.in-At.is c.in-Of.is (leaf (located_facts c.locate-found.ensures c.in-At.is).placed c.node_or_token.ensures c.in-Token.is) (c.beside_index-k.ensures ∙ ap (beside_index Next) c.widen.ensures.0))
+returns c = told_as c.next_edge.ensures (beside_asked Next c.in_ok-place.ensures refl refl c.in-Some.is (leaf (located_facts c.in_ok-place.ensures refl).placed c.node_or_token.ensures c.in-Token.is) c.beside_index-k.ensures)

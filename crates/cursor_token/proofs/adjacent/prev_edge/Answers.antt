@@ -35,11 +35,11 @@ bounds-path-level-in_default-node_or_token c = level_there c.child-beside.ensure
 pub returns-in_default-node_or_token : goal.returns-in_default-node_or_token
 returns-in_default-node_or_token c = below_told (below_found c.child-beside.ensures (edge_of (inner c.child-beside.ensures.placed c.node_or_token.ensures c.in-Node.is) c.child_count-count.ensures.0 c.edge_index-i.ensures.0 (below_leaf Prev _ c.child-below.ensures (leaf c.child-below.ensures.placed c.node_or_token-2.ensures c.in_default-node_or_token.is) c.requires.in_bounds)) refl (simp length-set c.requires.in_bounds)) refl c.syntax_element-in_default-node_or_token.ensures
 
-pub edge_token-edge-requires : goal.edge_token-edge-requires
-edge_token-edge-requires c = (c.child-beside.ensures.placed, c.requires.in_bounds)
+pub edge_token-requires : goal.edge_token-requires
+edge_token-requires c = (c.child-beside.ensures.placed, c.requires.in_bounds)
 
-pub returns-in_default-edge : goal.returns-in_default-edge
-returns-in_default-edge c = below_none_told (below_none c.child-beside.ensures c.edge_token-edge.ensures c.in_default-edge.is) refl
+pub returns-in_err-token : goal.returns-in_err-token
+returns-in_err-token c = rw c.from_residual.ensures (below_none_told (below_none c.child-beside.ensures c.in_err-token.ensures refl) refl)
 
 pub overflow_cast-path-2 : goal.overflow_cast-path-2
 overflow_cast-path-2 c = omega (arith, c.requires.inner.1, count_most c.requires.inner.0)
@@ -51,7 +51,7 @@ pub bounds-path-level-2 : goal.bounds-path-level-2
 bounds-path-level-2 c = level_there c.child-beside.ensures (omega (arith, c.requires.in_bounds, c.path-1.given))
 
 pub syntax_element-requires-2 : goal.syntax_element-requires-2
-syntax_element-requires-2 c = token_placed _ _ _ _ c.edge_token-edge.ensures.written (c.edge_token-edge.ensures.says _) c.in-Token.is
+syntax_element-requires-2 c = token_placed _ _ _ _ c.in_ok-token.ensures.written (c.in_ok-token.ensures.says _) refl
 
 pub returns : goal.returns
-returns c = below_told (below_found c.child-beside.ensures c.edge_token-edge.ensures c.in-Token.is (omega (arith, c.requires.in_bounds, c.path-1.given))) refl c.syntax_element-2.ensures
+returns c = below_told (below_found c.child-beside.ensures c.in_ok-token.ensures refl (omega (arith, c.requires.in_bounds, c.path-1.given))) refl c.syntax_element-2.ensures

@@ -1,4 +1,5 @@
 -- `edge_below` and `edge_token` meet their contracts: the height falls from a node to its child.
+use mathlib.Core.Path.{refl}
 use native.Mathlib.Omega.{arith}
 use borrow.Author.Rules.{rules}
 use Rattle.cursor.proofs.Positions.{count_most, level_there, inner, leaf}
@@ -23,11 +24,11 @@ edge_below-bounds-path-depth t c = level_there c.child-child.ensures (search rul
 pub edge_below-returns-in_default : goal.edge_below-returns-in_default
 edge_below-returns-in_default t c = below_leaf _ _ c.child-child.ensures (leaf c.child-child.ensures.placed c.node_or_token.ensures c.in_default.is) (search rules)
 
-pub edge_below-edge_token-edge-requires : goal.edge_below-edge_token-edge-requires
-edge_below-edge_token-edge-requires t c = (omega (arith, c.child-child.ensures.lower, c.decreases), (c.child-child.ensures.placed, search rules))
+pub edge_below-edge_token-requires : goal.edge_below-edge_token-requires
+edge_below-edge_token-requires t c = (omega (arith, c.child-child.ensures.lower, c.decreases), (c.child-child.ensures.placed, search rules))
 
-pub edge_below-returns-in_default-edge : goal.edge_below-returns-in_default-edge
-edge_below-returns-in_default-edge t c = below_none c.child-child.ensures c.edge_token-edge.ensures c.in_default-edge.is
+pub edge_below-returns-in_err-token : goal.edge_below-returns-in_err-token
+edge_below-returns-in_err-token t c = rw c.from_residual.ensures (below_none c.child-child.ensures c.in_err-token.ensures refl)
 
 pub edge_below-overflow_cast-path-2 : goal.edge_below-overflow_cast-path-2
 edge_below-overflow_cast-path-2 t c = omega (arith, c.requires.inner.1, count_most c.requires.inner.0)
@@ -39,7 +40,7 @@ pub edge_below-bounds-path-depth-2 : goal.edge_below-bounds-path-depth-2
 edge_below-bounds-path-depth-2 t c = level_there c.child-child.ensures (omega (arith, c.requires.in_bounds, c.path-1.given))
 
 pub edge_below-returns : goal.edge_below-returns
-edge_below-returns t c = below_found c.child-child.ensures c.edge_token-edge.ensures c.in-Token.is (omega (arith, c.requires.in_bounds, c.path-1.given))
+edge_below-returns t c = below_found c.child-child.ensures c.in_ok-token.ensures refl (omega (arith, c.requires.in_bounds, c.path-1.given))
 
 pub edge_token-node_or_token-requires : goal.edge_token-node_or_token-requires
 edge_token-node_or_token-requires t c = c.requires.0

@@ -22,11 +22,11 @@ child-child-requires c = record { inner = inner c.requires.0 c.node_or_token.ens
 pub returns-in_default-node_or_token : goal.returns-in_default-node_or_token
 returns-in_default-node_or_token c = edge_told (edge_of (inner c.requires.0 c.node_or_token.ensures c.in-Node.is) c.child_count-count.ensures.0 c.edge_index-k.ensures.0 (below_leaf Prev _ c.child-child.ensures (leaf c.child-child.ensures.placed c.node_or_token-2.ensures c.in_default-node_or_token.is) c.requires.1)) refl c.syntax_element-in_default-node_or_token.ensures
 
-pub returns-in_default-edge : goal.returns-in_default-edge
-returns-in_default-edge c = edge_none c.edge_token-edge.ensures c.in_default-edge.is
+pub returns-in_err-token : goal.returns-in_err-token
+returns-in_err-token c = rw c.from_residual.ensures (edge_none c.in_err-token.ensures refl)
 
 pub syntax_element-requires-2 : goal.syntax_element-requires-2
-syntax_element-requires-2 c = token_placed _ _ _ _ c.edge_token-edge.ensures.written (c.edge_token-edge.ensures.says _) c.in-Token.is
+syntax_element-requires-2 c = token_placed _ _ _ _ c.in_ok-token.ensures.written (c.in_ok-token.ensures.says _) refl
 
 pub returns : goal.returns
-returns c = edge_told c.edge_token-edge.ensures c.in-Token.is c.syntax_element-2.ensures
+returns c = edge_told c.in_ok-token.ensures refl c.syntax_element-2.ensures

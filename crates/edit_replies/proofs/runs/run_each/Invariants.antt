@@ -1,4 +1,4 @@
-use Rattle.std.proofs.Common.{[], ◌-◌}
+use Rattle.std.proofs.Common.{[]}
 use Rattle.green.specs.Store.{store}
 use Rattle.builder.specs.Places.{places}
 use Rattle.sheet_run.proofs.Going.{Going}
@@ -7,6 +7,3 @@ use Rattle.edit_replies.proofs.runs.run_each.Given as goal
 abbrev pub invariant-loop-i : goal.invariant-loop-i
 invariant-loop-i l =
     Going (store l.initial.records l.initial.children l.initial.text l.initial.used) [] l.sheet l.source l.n (store l.records l.children l.text l.used) (places l.parents l.waiting l.registers l.counts) [] l.at l.i
-
-abbrev pub decreases-loop-i : goal.decreases-loop-i
-decreases-loop-i l = l.n - l.i

@@ -1,30 +1,19 @@
--- `are_elements` meets its contract: what is left gives the answer.
-use native.Mathlib.Omega.{arith}
-use mathlib.Core.Path.{refl}
-use Rattle.definitions.proofs.Entries.{present_start, absent_here, present_next, present_all}
-use Rattle.edits.proofs.Counting.{past_most, within_most}
+-- `are_elements` meets its contract.
+use mathlib.Core.Path.{◌∙◌}
+use lib.Dec.{ltb}
+use lib.ListN.{get_or}
+use borrow.Author.Rules.{rules}
+use Rattle.std.proofs.lemmas.Iterator.{YieldsList-from_slice}
+use Rattle.std.proofs.lemmas.Iterator.Search.{all_from_yields_List}
+use Rattle.definitions.proofs.Entries.{each_present}
+use Rattle.green.specs.Store.{entries}
+use Rattle.green.specs.View.{view}
+use Rattle.green.proofs.Known.{count_records}
 use Rattle.edits.proofs.decide.are_elements.Goals as goal
 
-pub loop-i-init : goal.loop-i-init
-loop-i-init c = (refl, present_start _ _)
-
-pub offset_bounds-numbers-i : goal.offset_bounds-numbers-i
-offset_bounds-numbers-i c = omega arith
-
-pub bounds-numbers-i : goal.bounds-numbers-i
-bounds-numbers-i c = omega arith
-
-pub returns-then-most-widen : goal.returns-then-most-widen
-returns-then-most-widen c = absent_here c.loop-i.invariant.1 c.loop-i-test.true c.widen.ensures.0 (past_most c.requires c.loop-i.invariant.0 c.if-most-widen.true)
-
-pub overflow_add-i : goal.overflow_add-i
-overflow_add-i c = omega arith
-
-pub loop-i-smaller : goal.loop-i-smaller
-loop-i-smaller c = omega arith
-
-pub loop-i-preserved : goal.loop-i-preserved
-loop-i-preserved c = (c.loop-i.invariant.0, present_next c.loop-i.invariant.1 c.loop-i-test.true c.widen.ensures.0 (within_most c.requires c.loop-i.invariant.0 c.if-most-widen.false))
-
 pub returns : goal.returns
-returns c = present_all c.loop-i.invariant.1 c.loop-i-test.false
+returns c =
+    let a = c.args in
+    let s = view a.store in
+    all_from_yields_List (λ n. ltb n (get_or a.store.used.now 0 0)) _ _ c.all.result c.all.ensures.ran (YieldsList-from_slice a.numbers.now cc) (λ x b q k. search rules)
+    ∙ rw (count_records s c.args.store.valid) (each_present (entries s) a.numbers.now)

@@ -13,7 +13,7 @@ pub plus_children-goes-requires : goal.plus_children-goes-requires
 plus_children-goes-requires c = (c.requires.splices.0, goes_room c.requires.splices.0 c.args.new.now c.childless-none.ensures.1)
 
 pub plus_numbers-comes-requires : goal.plus_numbers-comes-requires
-plus_numbers-comes-requires c = record { valid = (c.requires.splices.0.known.valid, c.requires.splices.1); room_for = comes_room c.requires.splices.0 c.args.new.now c.childless-none.ensures.1 (rw c.requires.count_value.0 at c.requires.count_value.1) }
+plus_numbers-comes-requires c = record { all_below = c.requires.splices.1; room_for = comes_room c.requires.splices.0 c.args.new.now c.childless-none.ensures.1 (rw c.requires.count_value.0 at c.requires.count_value.1) }
 
 pub exchanged-requires : goal.exchanged-requires
 exchanged-requires c = exchangeable c.requires.splices.0 c.args.new.now c.measure_of-own.ensures.0 (of_kind c.kind_of-kind.ensures c.childless-none.ensures.0) c.plus_children-goes.ensures.1 c.plus_numbers-comes.ensures.1 c.measure_of-own.ensures.1 c.childless-none.ensures.1 (rw c.requires.count_value.0 at c.requires.count_value.1) c.plus_numbers-comes.ensures.0 (sym c.is_height_known.ensures ∙ c.if-is_height_known.true)

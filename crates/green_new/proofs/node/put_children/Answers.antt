@@ -10,7 +10,7 @@ pub overflow_mul-children : goal.overflow_mul-children
 overflow_mul-children c = omega (arith, offset_bound c.requires c.loop-i.invariant c.loop-i-test.true)
 
 pub overflow_add-children : goal.overflow_add-children
-overflow_add-children c = omega (arith, offset_bound c.requires c.loop-i.invariant c.loop-i-test.true, number_small c.requires c.loop-i.invariant c.loop-i-test.true, c.widen-n.ensures.0)
+overflow_add-children c = omega (arith, offset_bound c.requires c.loop-i.invariant c.loop-i-test.true, number_small c.requires c.loop-i.invariant c.loop-i-test.true)
 
 pub overflow_add-children-in-loop-i : goal.overflow_add-children-in-loop-i
 overflow_add-children-in-loop-i c = omega (arith, place_bound c.requires c.loop-i.invariant c.loop-i-test.true)
@@ -22,13 +22,13 @@ pub bounds-children-at : goal.bounds-children-at
 bounds-children-at c = omega (arith, place_bound c.requires c.loop-i.invariant c.loop-i-test.true)
 
 pub len_at-requires : goal.len_at-requires
-len_at-requires c = rw c.widen-n.ensures.0 (number_record c.requires c.loop-i.invariant c.loop-i-test.true)
+len_at-requires c = (number_record c.requires c.loop-i.invariant c.loop-i-test.true)
 
 pub overflow_add-offset : goal.overflow_add-offset
-overflow_add-offset c = let e = rw c.widen-n.ensures.0 at c.len_at.ensures in omega (arith, len_bound c.requires c.loop-i.invariant c.loop-i-test.true _ e, offset_bound c.requires c.loop-i.invariant c.loop-i-test.true)
+overflow_add-offset c = omega (arith, len_bound c.requires c.loop-i.invariant c.loop-i-test.true _ c.len_at.ensures, offset_bound c.requires c.loop-i.invariant c.loop-i-test.true)
 
 pub loop-i-preserved : goal.loop-i-preserved
-loop-i-preserved c = let e = rw c.widen-n.ensures.0 at c.len_at.ensures in rw c.widen-n.ensures.0 (put_one c.requires c.loop-i.invariant c.loop-i-test.true _ e)
+loop-i-preserved c = (put_one c.requires c.loop-i.invariant c.loop-i-test.true _ c.len_at.ensures)
 
 pub shape_of-children : goal.shape_of-children
 shape_of-children c = c.loop-i.invariant.same_length

@@ -1,11 +1,6 @@
-use Prim.Native.Nat.{◌-◌}
-use lib.ListN.{length}
 use Rattle.green.specs.Store.{store}
 use Rattle.green_new.proofs.Children.{Put}
 use Rattle.green_new.proofs.node.put_children.Given as goal
 
 abbrev pub invariant-loop-i : goal.invariant-loop-i
 invariant-loop-i l = Put (store l.records l.initial.children l.text l.used) l.at l.base l.numbers l.children l.offset l.i
-
-abbrev pub decreases-loop-i : goal.decreases-loop-i
-decreases-loop-i l = length l.numbers - l.i

@@ -1,10 +1,10 @@
 -- `push_token` meets its contract.
+use mathlib.Core.Path.{refl}
 use native.Mathlib.Omega.{arith}
+use Rattle.std.proofs.lemmas.Slice.{put_mid-paste}
 use Rattle.green_new.proofs.Tokens.{token_records, token_text_lem, token_counts, token_pushed}
+use borrow.Author.Rules.{rules}
 use Rattle.green_new.proofs.token.push_token.Goals as goal
-
-pub put_bytes-requires : goal.put_bytes-requires
-put_bytes-requires c = token_text_lem c.requires
 
 pub put_record-requires : goal.put_record-requires
 put_record-requires c = token_records c.requires
@@ -12,8 +12,11 @@ put_record-requires c = token_records c.requires
 pub overflow_add-used : goal.overflow_add-used
 overflow_add-used c = omega (arith, token_counts c.requires)
 
-pub overflow_add-used-2 : goal.overflow_add-used-2
-overflow_add-used-2 c = omega (arith, token_counts c.requires)
+pub overflow_add-end : goal.overflow_add-end
+overflow_add-end c = omega (arith, token_counts c.requires)
 
 pub returns : goal.returns
-returns c = token_pushed c.requires _ _ c.put_record.ensures c.put_bytes.ensures (omega arith)
+returns c = token_pushed c.requires _ _ c.put_record.ensures (put_mid-paste _ _ _ _ _ _ c.copy_from_slice.ensures.after (omega arith) refl) (omega arith)
+
+pub slice_bounds-copy_from_slice-end : goal.slice_bounds-copy_from_slice-end
+slice_bounds-copy_from_slice-end c = search (rules, token_text_lem c.requires)

@@ -14,19 +14,19 @@ pub loop-i-init : goal.loop-i-init
 loop-i-init c = seek_on c.next_alike-i.ensures c.requires.over_of.measure.hash sought_start
 
 pub is_node-requires : goal.is_node-requires
-is_node-requires c = record { known = known _ c.requires.valid.0 _ c.loop-i-test.true; node_sought = node_sought _ _ c.requires.over_of c.if-not-over.false c.requires.valid.1 }
+is_node-requires c = record { known = known _ c.args.store.valid _ c.loop-i-test.true; node_sought = node_sought _ _ c.requires.over_of c.if-not-over.false c.requires.valid }
 
 pub returns-then-is_node : goal.returns-then-is_node
-returns-then-is_node c = sought_hit c.loop-i.invariant (known _ c.requires.valid.0 _ c.loop-i-test.true).within _ c.is_node.ensures c.if-is_node.true ∙ node_reused _ _ c.requires.over_of c.if-not-over.false
+returns-then-is_node c = sought_hit c.loop-i.invariant (known _ c.args.store.valid _ c.loop-i-test.true).within _ c.is_node.ensures c.if-is_node.true ∙ node_reused _ _ c.requires.over_of c.if-not-over.false
 
 pub overflow_add-i : goal.overflow_add-i
-overflow_add-i c = omega (arith, number_bound _ _ (known _ c.requires.valid.0 _ c.loop-i-test.true))
+overflow_add-i c = omega (arith, number_bound _ _ (known _ c.args.store.valid _ c.loop-i-test.true))
 
 pub loop-i-smaller : goal.loop-i-smaller
 loop-i-smaller c = omega (arith, c.next_alike-i-in-loop-i.ensures.none.after, c.loop-i-test.true)
 
 pub loop-i-preserved : goal.loop-i-preserved
-loop-i-preserved c = seek_on c.next_alike-i-in-loop-i.ensures c.requires.over_of.measure.hash (sought_next c.loop-i.invariant (known _ c.requires.valid.0 _ c.loop-i-test.true).within _ c.is_node.ensures c.if-is_node.false)
+loop-i-preserved c = seek_on c.next_alike-i-in-loop-i.ensures c.requires.over_of.measure.hash (sought_next c.loop-i.invariant (known _ c.args.store.valid _ c.loop-i-test.true).within _ c.is_node.ensures c.if-is_node.false)
 
 pub returns : goal.returns
-returns c = sought_end c.loop-i.invariant (omega (arith, count_records _ c.requires.valid.0, c.loop-i-test.false)) ∙ node_reused _ _ c.requires.over_of c.if-not-over.false
+returns c = sought_end c.loop-i.invariant (omega (arith, count_records _ c.args.store.valid, c.loop-i-test.false)) ∙ node_reused _ _ c.requires.over_of c.if-not-over.false

@@ -1,6 +1,6 @@
 -- `same_children` meets its contract.
 use native.Mathlib.Omega.{arith}
-use mathlib.Core.Path.{ap}
+use mathlib.Core.Path.{refl, ap}
 use Rattle.definitions.proofs.Comparing.{compared_end}
 use Rattle.node_cache.proofs.SameNode.{other_count, same_count, child_differs, child_same}
 use Rattle.node_cache.proofs.search.same_children.Goals as goal
@@ -17,23 +17,11 @@ loop-k-init c = same_count _ _ c.requires.1 c.count_of.ensures c.if-count_of-num
 pub nth_child-child-requires : goal.nth_child-child-requires
 nth_child-child-requires c = record { known = c.requires; k_in_bounds = omega (arith, c.loop-k.invariant.lengths) }
 
-pub offset_bounds-numbers-k : goal.offset_bounds-numbers-k
-offset_bounds-numbers-k c = omega arith
-
-pub bounds-numbers-k : goal.bounds-numbers-k
-bounds-numbers-k c = omega arith
-
-pub returns-then-child-widen : goal.returns-then-child-widen
-returns-then-child-widen c = child_differs c.loop-k.invariant c.loop-k-test.true (ap (λ x. x.number) c.nth_child-child.ensures.0) c.widen.ensures.0 c.if-child-widen.true
-
-pub overflow_add-k : goal.overflow_add-k
-overflow_add-k c = omega arith
-
-pub loop-k-smaller : goal.loop-k-smaller
-loop-k-smaller c = omega arith
+pub returns-then-child-number : goal.returns-then-child-number
+returns-then-child-number c = child_differs c.loop-k.invariant c.loop-k-test.true (ap (λ x. x.number) c.nth_child-child.ensures.0) refl c.if-child-number.true
 
 pub loop-k-preserved : goal.loop-k-preserved
-loop-k-preserved c = child_same c.loop-k.invariant c.loop-k-test.true (ap (λ x. x.number) c.nth_child-child.ensures.0) c.widen.ensures.0 c.if-child-widen.false
+loop-k-preserved c = child_same c.loop-k.invariant c.loop-k-test.true (ap (λ x. x.number) c.nth_child-child.ensures.0) refl c.if-child-number.false
 
 pub returns : goal.returns
 returns c = compared_end c.loop-k.invariant c.loop-k-test.false

@@ -9,4 +9,4 @@ pub returns-in_default : goal.returns-in_default
 returns-in_default c = no_question (sym c.of_code-coded.ensures ∙ ap coded_as c.in_default.is) refl refl (wordless refl)
 
 pub returns : goal.returns
-returns c = replied (sym c.of_code-coded.ensures ∙ ap coded_as c.in-Question.is) c.query-reply.ensures c.put_reply.ensures
+returns c = replied (sym c.of_code-coded.ensures ∙ ap coded_as c.in-Some.is) c.query-reply.ensures c.put_reply.ensures

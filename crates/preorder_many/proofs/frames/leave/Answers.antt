@@ -1,4 +1,5 @@
 -- `leave` meets its contract.
+use mathlib.Core.Path.{refl}
 use Prim.Native.Nat.{◌-◌}
 use Rattle.preorder_many.proofs.Framing.{not_deep}
 use Rattle.preorder_many.proofs.Going.{pred, leave_last, leave_top, leave_inner}
@@ -30,7 +31,7 @@ pub bounds-path-level : goal.bounds-path-level
 bounds-path-level c = omega (arith, not_deep c.requires.0.framed, pred c.args.depth c.if-depth-eq0.false, c.requires.1.path)
 
 pub go_on-requires : goal.go_on-requires
-go_on-requires c = let k = c.requires.0.framed.links (c.args.depth - 1) (omega (arith, pred c.args.depth c.if-depth-eq0.false)) in (k.inner, omega (arith, k.within, c.widen-i.ensures.0), c.requires.1)
+go_on-requires c = let k = c.requires.0.framed.links (c.args.depth - 1) (omega (arith, pred c.args.depth c.if-depth-eq0.false)) in (k.inner, omega (arith, k.within), c.requires.1)
 
 pub returns : goal.returns
-returns c = leave_inner c.requires.0 c.requires.1 c.args.start c.if-depth-start.false (c.args.depth - 1) (pred c.args.depth c.if-depth-eq0.false) c.widen-i.ensures.0 c.go_on.ensures
+returns c = leave_inner c.requires.0 c.requires.1 c.args.start c.if-depth-start.false (c.args.depth - 1) (pred c.args.depth c.if-depth-eq0.false) refl c.go_on.ensures

@@ -1,11 +1,9 @@
-use Prim.Native.Nat.{◌-◌}
-use Rattle.green.specs.Store.{store}
+use Prim.Native.Nat.{◌*◌}
+use lib.ListN.{length}
+use Rattle.green.specs.View.{view}
 use Rattle.preorder_many.specs.Many.{state}
 use Rattle.preorder_many.proofs.Run.{Going}
 use Rattle.preorder_many.proofs.walk.run.Given as goal
 
-abbrev pub invariant-loop-from : goal.invariant-loop-from
-invariant-loop-from l = Going (store l.records l.children l.text l.used) l.root l.with_tokens l.start (state l.initial.path l.depth l.initial.then) l.initial.events l.places l.path l.numbers l.starts l.level l.then l.events l.count l.from
-
-abbrev pub decreases-loop-from : goal.decreases-loop-from
-decreases-loop-from l = l.places - l.from
+abbrev pub invariant-loop-count : goal.invariant-loop-count
+invariant-loop-count l = Going (view l.store) l.root l.with_tokens l.start (state l.initial.path l.depth l.initial.then) l.initial.events (length l.initial.events) l.path l.numbers l.starts l.level l.then l.events l.count (l.count * 7)

@@ -8,4 +8,4 @@ pub returns-in-EqualText : goal.returns-in-EqualText
 returns-in-EqualText c = decides (ap pair_in c.in-EqualText.is) refl c.equal-answer.result c.equal-answer.ensures c.of_truth.ensures
 
 pub returns-in-SameElement : goal.returns-in-SameElement
-returns-in-SameElement c = compares (ap pair_in c.in-SameElement.is) refl c.same_element-answer.result c.same_element-answer.ensures c.of_same.ensures
+returns-in-SameElement c = compares (ap pair_in c.in-SameElement.is) refl c.same_element-answer.result c.same_element-answer.ensures c.of_truth-in-SameElement.ensures

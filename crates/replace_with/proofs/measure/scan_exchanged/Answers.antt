@@ -19,12 +19,6 @@ child_measure-y-requires c = record { exchanges = c.requires; k_in_bounds = omeg
 pub plus-over-requires : goal.plus-over-requires
 plus-over-requires c = scanning_room c.requires c.loop-k.invariant (omega (arith, c.count_of-count.ensures, count_node c.requires.known c.requires.node, c.loop-k-test.true)) c.child_measure-y.ensures.summable
 
-pub overflow_add-k : goal.overflow_add-k
-overflow_add-k c = omega arith
-
-pub loop-k-smaller : goal.loop-k-smaller
-loop-k-smaller c = omega arith
-
 pub loop-k-preserved : goal.loop-k-preserved
 loop-k-preserved c = scanning_more c.requires c.loop-k.invariant (omega (arith, c.count_of-count.ensures, count_node c.requires.known c.requires.node, c.loop-k-test.true)) c.child_measure-y.ensures.measure_of c.plus-over.ensures.0 c.plus-over.ensures.1
 

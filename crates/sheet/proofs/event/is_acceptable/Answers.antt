@@ -1,15 +1,12 @@
--- `is_acceptable` meets its contract: what is left decides.
-use Rattle.definitions.proofs.Judging.{passing_start, passing_stop, passing_next, passing_end}
+-- `is_acceptable` meets its contract.
+use mathlib.Core.Path.{◌∙◌}
+use lib.Dec.{leb}
+use borrow.Author.Rules.{rules}
+use Rattle.std.proofs.lemmas.Iterator.{YieldsList-from_slice}
+use Rattle.std.proofs.lemmas.Iterator.Search.{all_from_yields_List}
+use Rattle.definitions.proofs.Judging.{each_acceptable}
 use Rattle.sheet.proofs.event.is_acceptable.Goals as goal
 
-pub loop-i-init : goal.loop-i-init
-loop-i-init c = passing_start c.args.src.now
-
-pub returns-then-src-i-gt127 : goal.returns-then-src-i-gt127
-returns-then-src-i-gt127 c = passing_stop c.loop-i.invariant c.loop-i-test.true c.if-src-i-gt127.true
-
-pub loop-i-preserved : goal.loop-i-preserved
-loop-i-preserved c = passing_next c.loop-i.invariant c.loop-i-test.true c.if-src-i-gt127.false
-
 pub returns : goal.returns
-returns c = passing_end c.loop-i.invariant c.loop-i-test.false
+returns c =
+    all_from_yields_List (λ x. leb x 127) _ _ c.all.result c.all.ensures.ran (YieldsList-from_slice c.args.src.now cc) (λ x b q k. search rules) ∙ each_acceptable c.args.src.now

@@ -17,10 +17,10 @@ pub overflow_sub-result : goal.overflow_sub-result
 overflow_sub-result c = c.loop-x.invariant.0.low
 
 pub overflow_add-result : goal.overflow_add-result
-overflow_add-result c = omega (arith, seek_bound c.loop-x.invariant.0 c.requires.spans (c.piece-bytes.ensures _ c.leaf_near-leaf.ensures.token) _ c.index_of-found.ensures c.in-At.is, (c.piece-bytes.ensures _ c.leaf_near-leaf.ensures.token).most, c.loop-x.invariant.0.low, c.loop-x-test.true)
+overflow_add-result c = omega (arith, seek_bound c.loop-x.invariant.0 c.requires.spans (c.piece-bytes.ensures _ c.leaf_near-leaf.ensures.token) _ c.index_of-found.ensures c.in-Some.is, (c.piece-bytes.ensures _ c.leaf_near-leaf.ensures.token).most, c.loop-x.invariant.0.low, c.loop-x-test.true)
 
-pub returns-in-At : goal.returns-in-At
-returns-in-At c = seek_found c.loop-x.invariant.0 c.requires.spans (c.piece-bytes.ensures _ c.leaf_near-leaf.ensures.token) _ c.index_of-found.ensures c.in-At.is
+pub returns-in-Some : goal.returns-in-Some
+returns-in-Some c = seek_found c.loop-x.invariant.0 c.requires.spans (c.piece-bytes.ensures _ c.leaf_near-leaf.ensures.token) _ c.index_of-found.ensures c.in-Some.is
 
 pub overflow_add-x : goal.overflow_add-x
 overflow_add-x c = omega (arith, (c.piece-bytes.ensures _ c.leaf_near-leaf.ensures.token).most)

@@ -1,6 +1,8 @@
 -- `equal_in` meets its contract.
 use native.Mathlib.Omega.{arith}
+use mathlib.Core.Path.{sym, ◌∙◌}
 use borrow.Author.Tests.{not-true, not-false}
+use Rattle.definitions.proofs.Comparing.{same_pointwise}
 use Rattle.syntax_text.proofs.Pieces.{node_itself, has_first, token_itself}
 use Rattle.syntax_text.proofs.Comparing.{compare, compared, spans_further, differs, compares}
 use Rattle.syntax_text.proofs.equality.equal_in.Goals as goal
@@ -32,11 +34,8 @@ overflow_add-other_start c = omega (arith, c.requires.inner_2.1.high, c.requires
 pub piece-right-requires : goal.piece-right-requires
 piece-right-requires c = (token_itself c.leaf_near-two.ensures.token, omega (arith, c.loop-i-test.true))
 
-pub starts_same-requires : goal.starts_same-requires
-starts_same-requires c = (omega (arith, c.lesser-n.ensures), omega (arith, c.lesser-n.ensures))
-
-pub returns-then-not-starts_same : goal.returns-then-not-starts_same
-returns-then-not-starts_same c = differs c.loop-i.invariant.0 c.requires.inner.1 c.requires.inner_2.1 (c.piece-left.ensures _ c.leaf_near-one.ensures.token) (c.piece-right.ensures _ c.leaf_near-two.ensures.token) c.lesser-n.ensures c.starts_same.ensures (not-true _ c.if-not-starts_same.true-raw)
+pub returns-then-ne : goal.returns-then-ne
+returns-then-ne c = differs c.loop-i.invariant.0 c.requires.inner.1 c.requires.inner_2.1 (c.piece-left.ensures _ c.leaf_near-one.ensures.token) (c.piece-right.ensures _ c.leaf_near-two.ensures.token) c.min-n.ensures (same_pointwise _ _) (not-true _ (sym c.ne.ensures ∙ c.if-ne.true))
 
 pub next_index-likely-requires : goal.next_index-likely-requires
 next_index-likely-requires c = c.leaf_near-one.ensures.some
@@ -45,13 +44,13 @@ pub next_index-other_likely-requires : goal.next_index-other_likely-requires
 next_index-other_likely-requires c = c.leaf_near-two.ensures.some
 
 pub overflow_add-i : goal.overflow_add-i
-overflow_add-i c = omega (arith, c.lesser-n.ensures, (c.piece-left.ensures _ c.leaf_near-one.ensures.token).most, c.requires.inner.1.high, c.requires.inner.0.placed.far)
+overflow_add-i c = omega (arith, c.min-n.ensures, (c.piece-left.ensures _ c.leaf_near-one.ensures.token).most, c.requires.inner.1.high, c.requires.inner.0.placed.far)
 
 pub loop-i-smaller : goal.loop-i-smaller
-loop-i-smaller c = omega (arith, c.lesser-n.ensures, (c.piece-left.ensures _ c.leaf_near-one.ensures.token).some, (c.piece-right.ensures _ c.leaf_near-two.ensures.token).some, c.loop-i-test.true)
+loop-i-smaller c = omega (arith, c.min-n.ensures, (c.piece-left.ensures _ c.leaf_near-one.ensures.token).some, (c.piece-right.ensures _ c.leaf_near-two.ensures.token).some, c.loop-i-test.true)
 
 pub loop-i-preserved : goal.loop-i-preserved
-loop-i-preserved c = (compares c.loop-i.invariant.0 c.requires.inner.1 c.requires.inner_2.1 (c.piece-left.ensures _ c.leaf_near-one.ensures.token) (c.piece-right.ensures _ c.leaf_near-two.ensures.token) c.lesser-n.ensures c.starts_same.ensures (not-false _ c.if-not-starts_same.false-raw), c.leaf_near-one.ensures.parent, c.leaf_near-two.ensures.parent)
+loop-i-preserved c = (compares c.loop-i.invariant.0 c.requires.inner.1 c.requires.inner_2.1 (c.piece-left.ensures _ c.leaf_near-one.ensures.token) (c.piece-right.ensures _ c.leaf_near-two.ensures.token) c.min-n.ensures (same_pointwise _ _) (not-false _ (sym c.ne.ensures ∙ c.if-ne.false)), c.leaf_near-one.ensures.parent, c.leaf_near-two.ensures.parent)
 
 pub returns : goal.returns
 returns c = compared c.loop-i.invariant.0 c.loop-i-test.false

@@ -1,19 +1,18 @@
 -- `check` meets its contract.
+use mathlib.Core.Path.{refl}
+use Rattle.utility_types.proofs.Passing.{passed_on}
 use Rattle.cursor.proofs.AskingNodes.{node_facts}
-use Rattle.syntax_text.proofs.Testing.{nowhere_checked, before_checked, after_checked, within_checked}
+use Rattle.syntax_text.proofs.Testing.{nowhere_checked, outside_checked, within_checked}
 use Rattle.syntax_text.proofs.text.check.Goals as goal
 
-pub returns-in_default : goal.returns-in_default
-returns-in_default c = nowhere_checked c.locate_node-found.ensures _ _ c.in_default.is
+pub returns-in_err-at : goal.returns-in_err-at
+returns-in_err-at c = rw (passed_on _ c.from_residual.ensures.1) (nowhere_checked c.in_err-at.ensures _ _ refl)
 
-pub end_of-node_end-requires : goal.end_of-node_end-requires
-end_of-node_end-requires c = (node_facts c.locate_node-found.ensures c.in-At.is).inner.placed
+pub is_astray-requires : goal.is_astray-requires
+is_astray-requires c = (node_facts c.in_ok-at.ensures refl).inner.placed
 
-pub returns-then-is_range_before : goal.returns-then-is_range_before
-returns-then-is_range_before c = before_checked c.locate_node-found.ensures _ _ c.in-At.is c.end_of-node_end.ensures.0 c.is_range_before.ensures c.if-is_range_before.true
-
-pub returns-then-node_end-end : goal.returns-then-node_end-end
-returns-then-node_end-end c = after_checked c.locate_node-found.ensures _ _ c.in-At.is c.end_of-node_end.ensures.0 c.is_range_before.ensures c.if-is_range_before.false c.if-node_end-end.true
+pub returns-then-is_astray : goal.returns-then-is_astray
+returns-then-is_astray c = outside_checked c.in_ok-at.ensures _ _ refl c.is_astray.ensures c.if-is_astray.true
 
 pub returns : goal.returns
-returns c = within_checked c.locate_node-found.ensures _ _ c.in-At.is c.end_of-node_end.ensures.0 c.is_range_before.ensures c.if-is_range_before.false c.requires.1 c.if-node_end-end.false
+returns c = within_checked c.in_ok-at.ensures _ _ refl c.is_astray.ensures c.if-is_astray.false c.requires

@@ -1,16 +1,15 @@
 -- `len` meets its contract.
+use mathlib.Core.Path.{refl}
+use Rattle.utility_types.proofs.Passing.{passed_on}
 use native.Mathlib.Omega.{arith}
-use Rattle.syntax_text.proofs.Testing.{text_within, refused_4, refused_5, answered, len_is}
+use Rattle.syntax_text.proofs.Testing.{text_within, refused_told, answered, len_is}
 use Rattle.syntax_text.proofs.text.len.Goals as goal
 
 pub overflow_sub-result : goal.overflow_sub-result
-overflow_sub-result c = omega (arith, (text_within c.check-checked.ensures c.in-Within.is).ordered)
+overflow_sub-result c = omega (arith, (text_within c.in_ok-check.ensures refl).ordered)
 
-pub returns-in-Nowhere : goal.returns-in-Nowhere
-returns-in-Nowhere c = refused_4 c.check-checked.ensures _ _ len_is c.in-Nowhere.is
+pub returns-in_err-check : goal.returns-in_err-check
+returns-in_err-check c = rw (passed_on _ c.from_residual.ensures.1) (refused_told c.in_err-check.ensures _ _ len_is refl)
 
-pub returns-in-Astray : goal.returns-in-Astray
-returns-in-Astray c = refused_5 c.check-checked.ensures _ _ len_is c.in-Astray.is
-
-pub returns-in-Within : goal.returns-in-Within
-returns-in-Within c = answered c.check-checked.ensures _ _ len_is c.in-Within.is
+pub returns : goal.returns
+returns c = answered c.in_ok-check.ensures _ _ len_is refl

@@ -18,10 +18,10 @@ pub bounds-place-depth : goal.bounds-place-depth
 bounds-place-depth c = room_there c.requires.reaches _ c.args.end (inner c.requires.reaches.placed c.node_or_token.ensures c.in-Node.is) c.partition_point-before.ensures (omega (arith, c.if-child_count-gt0.true, c.child_count.ensures.0)) c.requires.placed.2
 
 pub child-requires : goal.child-requires
-child-requires c = record { inner = inner c.requires.reaches.placed c.node_or_token.ensures c.in-Node.is; k_bound = omega (arith, c.first_reaching-k.ensures, child_first c.requires.reaches _ c.args.end (inner c.requires.reaches.placed c.node_or_token.ensures c.in-Node.is) c.partition_point-before.ensures (omega (arith, c.if-child_count-gt0.true, c.child_count.ensures.0))) }
+child-requires c = record { inner = inner c.requires.reaches.placed c.node_or_token.ensures c.in-Node.is; k_bound = omega (arith, c.saturating_sub-k.ensures, child_first c.requires.reaches _ c.args.end (inner c.requires.reaches.placed c.node_or_token.ensures c.in-Node.is) c.partition_point-before.ensures (omega (arith, c.if-child_count-gt0.true, c.child_count.ensures.0))) }
 
 pub returns-then-child_count-gt0 : goal.returns-then-child_count-gt0
-returns-then-child_count-gt0 c = into_node c.requires.reaches _ _ (inner c.requires.reaches.placed c.node_or_token.ensures c.in-Node.is) c.partition_point-before.ensures (omega (arith, c.if-child_count-gt0.true, c.child_count.ensures.0)) c.first_reaching-k.ensures c.child.ensures c.requires.placed.2
+returns-then-child_count-gt0 c = into_node c.requires.reaches _ _ (inner c.requires.reaches.placed c.node_or_token.ensures c.in-Node.is) c.partition_point-before.ensures (omega (arith, c.if-child_count-gt0.true, c.child_count.ensures.0)) c.saturating_sub-k.ensures c.child.ensures c.requires.placed.2
 
 pub returns-then-start-end_of : goal.returns-then-start-end_of
 returns-then-start-end_of c = token_found c.requires.reaches _ _ (leaf c.requires.reaches.placed c.node_or_token.ensures c.in_default.is) c.end_of.ensures.0 c.if-start-end_of.true c.if-end-at.false
@@ -29,8 +29,8 @@ returns-then-start-end_of c = token_found c.requires.reaches _ _ (leaf c.require
 pub go_down-way-requires : goal.go_down-way-requires
 go_down-way-requires c = record { placed = (c.requires.placed.0, c.requires.placed.1, omega (arith, c.requires.placed.2, c.requires.reaches.placed.deep)); leads_on = leads_there c.requires.reaches c.args.start c.args.end }
 
-pub returns-in-To : goal.returns-in-To
-returns-in-To c = went_on c.requires.reaches _ _ (elim c.match-node_or_token.branch [ in-Node+else-child_count-gt0 w ↦ pass_node c.requires.reaches _ _ (inner c.requires.reaches.placed c.node_or_token.ensures w.in-Node.is) w.child_count.ensures.0 w.if-child_count-gt0.false | in_default+else-start-end_of w ↦ pass_token c.requires.reaches _ _ w.end_of.ensures.0 w.if-start-end_of.false ]) c.advance-next.ensures c.in-To.is
+pub returns-in-Some : goal.returns-in-Some
+returns-in-Some c = went_on c.requires.reaches _ _ (elim c.match-node_or_token.branch [ in-Node+else-child_count-gt0 w ↦ pass_node c.requires.reaches _ _ (inner c.requires.reaches.placed c.node_or_token.ensures w.in-Node.is) w.child_count.ensures.0 w.if-child_count-gt0.false | in_default+else-start-end_of w ↦ pass_token c.requires.reaches _ _ w.end_of.ensures.0 w.if-start-end_of.false ]) c.advance-next.ensures c.in-Some.is
 
-pub returns-in-Nothing : goal.returns-in-Nothing
-returns-in-Nothing c = went_out c.requires.reaches _ _ (elim c.match-node_or_token.branch [ in-Node+else-child_count-gt0 w ↦ pass_node c.requires.reaches _ _ (inner c.requires.reaches.placed c.node_or_token.ensures w.in-Node.is) w.child_count.ensures.0 w.if-child_count-gt0.false | in_default+else-start-end_of w ↦ pass_token c.requires.reaches _ _ w.end_of.ensures.0 w.if-start-end_of.false ]) c.advance-next.ensures c.in-Nothing.is
+pub returns-in-None : goal.returns-in-None
+returns-in-None c = went_out c.requires.reaches _ _ (elim c.match-node_or_token.branch [ in-Node+else-child_count-gt0 w ↦ pass_node c.requires.reaches _ _ (inner c.requires.reaches.placed c.node_or_token.ensures w.in-Node.is) w.child_count.ensures.0 w.if-child_count-gt0.false | in_default+else-start-end_of w ↦ pass_token c.requires.reaches _ _ w.end_of.ensures.0 w.if-start-end_of.false ]) c.advance-next.ensures c.in-None.is

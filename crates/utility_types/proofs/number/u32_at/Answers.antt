@@ -5,4 +5,4 @@ use Rattle.utility_types.proofs.number.u32_at.Goals as goal
 
 pub returns : goal.returns
 unfolding u32_at
-returns c = omega arith
+returns c = omega (arith, c.from_le_bytes.ensures)
