@@ -44,7 +44,7 @@ impl Asked {
     // Keeps a walk that begins, or a text, in the slot that was emptied when the call was read; another reply leaves it empty.
     // No walk has more than 64 indexes.
     pub fn keep(self, slots: &mut Slots, path: &[u32; 64], reply: Reply)
-        ensures { Keeps self.keeping slots.old slots.new }
+        ensures { Keeps self.keeping self path.now reply slots.old slots.new }
     {
         match (self.keeping, reply) {
             (Keeping::Walk(slot, tokens), Reply::Walk(ahead)) if ahead.depth <= 64 => {
