@@ -1,5 +1,5 @@
 -- Laws of outcomes, words and codes. Assumes nothing.
-use Prim.Native.Nat.{ℕ, zero, suc, ◌+◌, ◌≤◌}
+use Prim.Native.Nat.{ℕ, zero, suc, ◌≤◌}
 use native.Mathlib.Omega.{arith}
 use mathlib.Core.Path.{◌≡◌, refl, sym, ap, ◌∙◌}
 use mathlib.Core.List.{List, [], ◌∷◌}
@@ -9,16 +9,18 @@ use lib.Dec.{eqb}
 use borrow.Author.Tests.{ne_eqb}
 use lib.ListN.{length, get_elem?}
 use lib.Seq.{sets}
-use Rattle.utility_types.specs.Numbers.{refusal_number}
-use Rattle.utility_types.specs.declared.Refusal.{Refusal}
-use Rattle.utility_types.specs.declared.Refusal.TheVariants.{Malformed, BadEvent, BadText, NoSuchElement, OutOfRange, OtherKind, NothingOpen, UnfitCheckpoint, Unfinished, TooLarge, NoRoom, SkipBeforeFirst}
+use Rattle.std.specs.Prelude.{Some, None, Ok, Err, Option as Optional}
+use Rattle.std.proofs.Common.{inl, inr}
+use Rattle.utility_types.specs.Numbers.{OrRefusal}
 use Rattle.preorder.specs.declared.state.Coming.TheVariants.{Ended}
-use Rattle.abi.specs.Outcomes.{Output, told, OutputWritten, SameOutput, chunk_told}
+use Rattle.abi.specs.Outcomes.{Output, with_words, OutputWritten, SameOutput, chunk_told, part_told}
+use Rattle.syntax_text_chunks.specs.declared.chunks.Part.{Part}
+use Rattle.syntax_text_chunks.specs.Chunks.{outcome_of, part_in, RefusedAsText}
 use Rattle.abi.specs.Codes.{flag}
 use Rattle.abi.specs.WalkWords.{coming_in}
 
 -- an outcome without words
-pub wordless : {n r : ℕ} {m : List ℕ} → r ≡ n → OutputWritten (told n []) m m r
+pub wordless : {n r : ℕ} {m : List ℕ} → r ≡ n → OutputWritten (with_words n []) m m r
 wordless h = record { outcome = h; words = refl }
 
 -- two calls that tell the same, with the same words lent
@@ -27,20 +29,6 @@ same_output {m = m} e a b = record {
   outcome = a.outcome ∙ ap (λ (o : Output). o.outcome) e ∙ sym b.outcome;
   words = a.words ∙ ap (λ (o : Output). sets m 0 o.words) e ∙ sym b.words;
 }
-
-pub refusal_small : (x : Refusal) → refusal_number x ≤ 16
-refusal_small Malformed = omega arith
-refusal_small BadEvent = omega arith
-refusal_small BadText = omega arith
-refusal_small NoSuchElement = omega arith
-refusal_small OutOfRange = omega arith
-refusal_small OtherKind = omega arith
-refusal_small NothingOpen = omega arith
-refusal_small UnfitCheckpoint = omega arith
-refusal_small Unfinished = omega arith
-refusal_small TooLarge = omega arith
-refusal_small NoRoom = omega arith
-refusal_small SkipBeforeFirst = omega arith
 
 -- a number that is none of the n keys 0, 1, .. of a `match`
 abbrev pub Misses : ℕ → ℕ → Type 0
@@ -69,7 +57,9 @@ over (suc zero) h = absurd (let z : ⊥ = omega (arith, h) in z)
 over (suc (suc zero)) h = absurd (let z : ⊥ = omega (arith, h) in z)
 over (suc (suc (suc x))) h = refl
 
-pub chunk_refused : (x from to : ℕ) {r : ℕ} {m : List ℕ} → 2 ≤ x → r ≡ 100 + x → OutputWritten (chunk_told x from to) m m r
-chunk_refused zero from to h e = absurd (let z : ⊥ = omega (arith, h) in z)
-chunk_refused (suc zero) from to h e = absurd (let z : ⊥ = omega (arith, h) in z)
-chunk_refused (suc (suc x)) from to h e = wordless e
+-- what a chunk step answers, by its outcome's number
+pub part_told_as : (x : OrRefusal (Optional Part)) → RefusedAsText x → chunk_told (outcome_of x) (part_in x).from (part_in x).to ≡ part_told x
+part_told_as (Ok (Some r)) t = refl
+part_told_as (Ok None) t = refl
+part_told_as (Err why) (inl e) = rw e refl
+part_told_as (Err why) (inr e) = rw e refl

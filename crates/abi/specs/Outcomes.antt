@@ -16,6 +16,7 @@ use Rattle.query.specs.declared.reply.Reply.TheVariants as reply
 use Rattle.preorder.specs.declared.state.Ahead.{Ahead}
 use Rattle.green.specs.declared.element.Summary.{Summary}
 use Rattle.green.specs.declared.node.Child.{Child}
+use Rattle.syntax_text_chunks.specs.declared.chunks.Part.{Part}
 use Rattle.sheet.specs.Ended.{Ended}
 
 -- what a call returns, and the words that it writes
@@ -23,8 +24,8 @@ pub record Output : Type 0 where
   pub outcome : ℕ
   pub words : List ℕ
 
-abbrev pub told : ℕ → List ℕ → Output
-told n ws = record { outcome = n; words = ws }
+abbrev pub with_words : ℕ → List ℕ → Output
+with_words n ws = record { outcome = n; words = ws }
 
 -- THE OUTCOMES, as notes_tree.h names them. A refusal by document 01's number n is 100 + n; 99 says that there is no call or question of that code
 abbrev pub none_outcome : ℕ
@@ -73,7 +74,7 @@ abbrev pub unknown_outcome : ℕ
 unknown_outcome = 99
 
 abbrev pub refused_by : Refusal → Output
-refused_by x = told (100 + refusal_number x) []
+refused_by x = with_words (100 + refusal_number x) []
 
 -- an element: a token or a node; start, end, how many indexes of its path lead to it, kind
 abbrev pub element_kind : Bool → ℕ
@@ -84,47 +85,47 @@ abbrev pub element_words : SyntaxElement → List ℕ
 element_words e = e.start ∷ e.end ∷ e.depth ∷ e.kind.0 ∷ []
 
 abbrev pub element_told : SyntaxElement → Output
-element_told e = told (element_kind e.is_node) (element_words e)
+element_told e = with_words (element_kind e.is_node) (element_words e)
 
 abbrev pub answer_told : OrRefusal (Optional SyntaxElement) → Output
 answer_told (Ok (Some e)) = element_told e
-answer_told (Ok None) = told none_outcome []
+answer_told (Ok None) = with_words none_outcome []
 answer_told (Err x) = refused_by x
 
 -- one token, or two, the left one's words first
 abbrev pub at_offset_told : TokenAtOffset → Output
-at_offset_told tokens.None = told none_outcome []
-at_offset_told (tokens.Single e) = told token_outcome (element_words e)
-at_offset_told (tokens.Between e f) = told pair_outcome (e.start ∷ e.end ∷ e.depth ∷ e.kind.0 ∷ f.start ∷ f.end ∷ f.depth ∷ f.kind.0 ∷ [])
+at_offset_told tokens.None = with_words none_outcome []
+at_offset_told (tokens.Single e) = with_words token_outcome (element_words e)
+at_offset_told (tokens.Between e f) = with_words pair_outcome (e.start ∷ e.end ∷ e.depth ∷ e.kind.0 ∷ f.start ∷ f.end ∷ f.depth ∷ f.kind.0 ∷ [])
 
 abbrev pub tokens_told : OrRefusal TokenAtOffset → Output
 tokens_told (Ok t) = at_offset_told t
 tokens_told (Err x) = refused_by x
 
 abbrev pub truth_told : Bool → Output
-truth_told true = told yes_outcome []
-truth_told false = told no_outcome []
+truth_told true = with_words yes_outcome []
+truth_told false = with_words no_outcome []
 
 -- a reply of the dispatcher: a text is its start and end, a walk that begins is done, a path how many indexes it has
-abbrev pub reply_told : Reply → Output
-reply_told reply.None = told none_outcome []
-reply_told (reply.Element e) = element_told e
-reply_told (reply.Tokens t) = at_offset_told t
-reply_told (reply.Text from to) = told text_outcome (from ∷ to ∷ [])
-reply_told (reply.Number n) = told number_outcome (n ∷ [])
-reply_told (reply.Truth b) = truth_told b
-reply_told (reply.Walk a) = told done_outcome []
-reply_told (reply.Path d) = told path_outcome (d ∷ [])
-reply_told (reply.Refused x) = refused_by x
+abbrev pub reply_told : OrRefusal Reply → Output
+reply_told (Ok reply.None) = with_words none_outcome []
+reply_told (Ok (reply.Element e)) = element_told e
+reply_told (Ok (reply.Tokens t)) = at_offset_told t
+reply_told (Ok (reply.Text from to)) = with_words text_outcome (from ∷ to ∷ [])
+reply_told (Ok (reply.Number n)) = with_words number_outcome (n ∷ [])
+reply_told (Ok (reply.Truth b)) = truth_told b
+reply_told (Ok (reply.Walk a)) = with_words done_outcome []
+reply_told (Ok (reply.Path d)) = with_words path_outcome (d ∷ [])
+reply_told (Err x) = refused_by x
 
 -- what a call that makes records answers, and the run of a sheet: a refused one says which event it was
 abbrev pub made_told : OrRefusal ℕ → Output
-made_told (Ok n) = told number_outcome (n ∷ [])
+made_told (Ok n) = with_words number_outcome (n ∷ [])
 made_told (Err x) = refused_by x
 
 abbrev pub ended_told : Ended → Output
-ended_told (Ok n) = told number_outcome (n ∷ [])
-ended_told (Err (x, i)) = told (100 + refusal_number x) (i ∷ [])
+ended_told (Ok n) = with_words number_outcome (n ∷ [])
+ended_told (Err (x, i)) = with_words (100 + refusal_number x) (i ∷ [])
 
 -- a walk's event: the element's words, then 1 for a node and 0 for a token
 abbrev pub bit : Bool → ℕ
@@ -135,36 +136,42 @@ abbrev pub step_words : SyntaxElement → List ℕ
 step_words e = e.start ∷ e.end ∷ e.depth ∷ e.kind.0 ∷ bit e.is_node ∷ []
 
 abbrev pub event_told : OrRefusal (Optional WalkEvent) → Output
-event_told (Ok (Some (Enter e))) = told enter_outcome (step_words e)
-event_told (Ok (Some (Leave e))) = told leave_outcome (step_words e)
-event_told (Ok None) = told none_outcome []
+event_told (Ok (Some (Enter e))) = with_words enter_outcome (step_words e)
+event_told (Ok (Some (Leave e))) = with_words leave_outcome (step_words e)
+event_told (Ok None) = with_words none_outcome []
 event_told (Err x) = refused_by x
 
 -- a walk that begins or is skipped on
 abbrev pub moved_told : OrRefusal Ahead → Output
-moved_told (Ok a) = told done_outcome []
+moved_told (Ok a) = with_words done_outcome []
 moved_told (Err x) = refused_by x
 
 -- many events: why no more came, and how many did. Only the first event can be refused (`Stops` in preorder_many), so that a refused call
 -- has no events to count, and writes no word
 abbrev pub given_told : Stop → ℕ → Output
-given_told stop.Full n = told full_outcome (n ∷ [])
-given_told stop.Over n = told none_outcome (n ∷ [])
+given_told stop.Full n = with_words full_outcome (n ∷ [])
+given_told stop.Over n = with_words none_outcome (n ∷ [])
 given_told (stop.Refused x) n = refused_by x
 
 -- a chunk's outcome is 0, the end's 1, else a refusal's number; where the chunk starts and ends in the store's text
 abbrev pub chunk_told : ℕ → ℕ → ℕ → Output
-chunk_told zero from to = told chunk_outcome (from ∷ to ∷ [])
-chunk_told (suc zero) from to = told none_outcome []
-chunk_told (suc (suc o)) from to = told (100 + suc (suc o)) []
+chunk_told zero from to = with_words chunk_outcome (from ∷ to ∷ [])
+chunk_told (suc zero) from to = with_words none_outcome []
+chunk_told (suc (suc o)) from to = with_words (100 + suc (suc o)) []
+
+-- the same of what a chunk step answers
+abbrev pub part_told : OrRefusal (Optional Part) → Output
+part_told (Ok (Some r)) = with_words chunk_outcome (r.from ∷ r.to ∷ [])
+part_told (Ok None) = with_words none_outcome []
+part_told (Err x) = refused_by x
 
 -- what a record keeps of its element, and a node's child: its number, and its offset in the node
 abbrev pub summary_told : OrRefusal Summary → Output
-summary_told (Ok s) = told (element_kind s.is_node) (s.kind.0 ∷ s.len ∷ s.size ∷ s.height ∷ s.children ∷ [])
+summary_told (Ok s) = with_words (element_kind s.is_node) (s.kind.0 ∷ s.len ∷ s.size ∷ s.height ∷ s.children ∷ [])
 summary_told (Err x) = refused_by x
 
 abbrev pub child_told : OrRefusal Child → Output
-child_told (Ok c) = told number_outcome (c.number ∷ c.offset ∷ [])
+child_told (Ok c) = with_words number_outcome (c.number ∷ c.offset ∷ [])
 child_told (Err x) = refused_by x
 
 -- IT IS TOLD: the outcome r is returned, and of the lent words just those of the answer are written, from the first on

@@ -1,12 +1,11 @@
 // Answers as an outcome, which is returned, and words in a lent place. Words that an answer does not have are left as they were.
 //
-// For the crates above. Each function takes any answer, but `put_chunk`: it asks for a chunk step's outcome as a number below 2^32,
-// which `next_part` ensures.
+// For the crates above. Each function takes any answer.
 
-ghost use Rattle.std.specs.Prelude.{◌≡◌, [], ◌∷◌, ◌+◌, ◌^◌, ◌<◌};
+ghost use Rattle.std.specs.Prelude.{◌≡◌, [], ◌∷◌, ◌+◌};
 ghost use Rattle.utility_types.specs.Numbers.{refusal_number};
 ghost use Rattle.utility_types.specs.declared.TokenAtOffset.TheVariants.{Between};
-ghost use Rattle.abi.specs.Outcomes.{told, element_kind, element_told, step_words, bit as bit_of, at_offset_told, answer_told, tokens_told, truth_told, reply_told, made_told, ended_told, event_told, moved_told, given_told, chunk_told, summary_told, child_told, Puts};
+ghost use Rattle.abi.specs.Outcomes.{with_words, element_kind, element_told, step_words, bit as bit_of, at_offset_told, answer_told, tokens_told, truth_told, reply_told, made_told, ended_told, event_told, moved_told, given_told, chunk_told, part_told, summary_told, child_told, Puts};
 
 use crate::Words;
 use green::element::Summary;
@@ -15,7 +14,8 @@ use preorder::state::Ahead;
 use preorder_many::state::Stop;
 use query::reply::Reply;
 use sheet::Ended;
-use utility_types::{Refusal, SyntaxElement, TokenAtOffset, WalkEvent, refusal_number};
+use syntax_text_chunks::chunks::Part;
+use utility_types::{Refusal, SyntaxElement, TokenAtOffset, WalkEvent};
 
 // The outcome of a code that no call or question has.
 pub const UNKNOWN: usize = 99;
@@ -23,7 +23,7 @@ pub const UNKNOWN: usize = 99;
 pub fn refused(why: Refusal) -> usize
     ensures { result ≡ 100 + refusal_number why }
 {
-    100 + refusal_number(why) as usize
+    100 + u64::from(why) as usize
 }
 
 fn kind_of(is_node: bool) -> usize
@@ -94,7 +94,7 @@ pub fn put_tokens(words: &mut Words, tokens: Result<TokenAtOffset, Refusal>) -> 
 }
 
 fn put_two(words: &mut Words, outcome: usize, a: usize, b: usize) -> usize
-    ensures { Puts words (told outcome (a ∷ b ∷ [])) result }
+    ensures { Puts words (with_words outcome (a ∷ b ∷ [])) result }
 {
     words[0] = a;
     words[1] = b;
@@ -102,7 +102,7 @@ fn put_two(words: &mut Words, outcome: usize, a: usize, b: usize) -> usize
 }
 
 fn put_one(words: &mut Words, outcome: usize, a: usize) -> usize
-    ensures { Puts words (told outcome (a ∷ [])) result }
+    ensures { Puts words (with_words outcome (a ∷ [])) result }
 {
     words[0] = a;
     outcome
@@ -115,19 +115,19 @@ fn put_truth(_words: &mut Words, b: bool) -> usize
     if b { 6 } else { 7 }
 }
 
-pub fn put_reply(words: &mut Words, reply: Reply) -> usize
+pub fn put_reply(words: &mut Words, reply: Result<Reply, Refusal>) -> usize
     ensures { Puts words (reply_told reply) result }
 {
     match reply {
-        Reply::None => 0,
-        Reply::Element(e) => put_element(words, e),
-        Reply::Tokens(tokens) => put_at_offset(words, tokens),
-        Reply::Text(from, to) => put_two(words, 4, from, to),
-        Reply::Number(n) => put_one(words, 5, n),
-        Reply::Truth(b) => put_truth(words, b),
-        Reply::Walk(_) => 8,
-        Reply::Path(depth) => put_one(words, 9, depth),
-        Reply::Refused(why) => refused(why),
+        Ok(Reply::None) => 0,
+        Ok(Reply::Element(e)) => put_element(words, e),
+        Ok(Reply::Tokens(tokens)) => put_at_offset(words, tokens),
+        Ok(Reply::Text(from, to)) => put_two(words, 4, from, to),
+        Ok(Reply::Number(n)) => put_one(words, 5, n),
+        Ok(Reply::Truth(b)) => put_truth(words, b),
+        Ok(Reply::Walk(_)) => 8,
+        Ok(Reply::Path(depth)) => put_one(words, 9, depth),
+        Err(why) => refused(why),
     }
 }
 
@@ -150,7 +150,7 @@ pub fn put_ended(words: &mut Words, ended: Ended) -> usize
 }
 
 fn put_event(words: &mut Words, outcome: usize, e: SyntaxElement) -> usize
-    ensures { Puts words (told outcome (step_words e)) result }
+    ensures { Puts words (with_words outcome (step_words e)) result }
 {
     put_element(words, e);
     words[4] = bit(e.is_node);
@@ -189,15 +189,21 @@ pub fn put_given(words: &mut Words, stop: Stop, count: usize) -> usize
     }
 }
 
-// What a chunk step answered, and where the chunk lies in the store's text.
-pub fn put_chunk(words: &mut Words, outcome: usize, from: usize, to: usize) -> usize
-    requires { outcome < 2 ^ 32 }
-    ensures { Puts words (chunk_told outcome from to) result }
+// Where bytes lie in the store's text: a chunk, or a token's text.
+pub fn put_part(words: &mut Words, from: usize, to: usize) -> usize
+    ensures { Puts words (chunk_told 0 from to) result }
 {
-    match outcome {
-        0 => put_two(words, 12, from, to),
-        1 => 0,
-        _ => 100 + outcome,
+    put_two(words, 12, from, to)
+}
+
+// What a chunk step answered.
+pub fn put_chunk(words: &mut Words, came: Result<Option<Part>, Refusal>) -> usize
+    ensures { Puts words (part_told came) result }
+{
+    match came {
+        Ok(Some(part)) => put_part(words, part.from, part.to),
+        Ok(None) => 0,
+        Err(why) => refused(why),
     }
 }
 

@@ -13,7 +13,7 @@ fn character(x: usize) -> u32
     if x < 4294967295 { x as u32 } else { 4294967295 }
 }
 
-// The question of a code, if it is one.
+// The question of a code, if it is one. The code is a number, since C gives it.
 pub fn of_code(code: usize, m: &Words) -> Option<Question>
     ensures { coded_as result ≡ coded_question code m.now }
 {

@@ -8,6 +8,7 @@ use crate::{Words, answer};
 use preorder::state::{Ahead, Coming};
 use utility_types::Refusal;
 
+// Two functions in place of conversions, as the numbers are C's and the type is another crate's.
 fn coming_in(word: usize) -> Coming
     ensures { result ≡ coming_in word }
 {

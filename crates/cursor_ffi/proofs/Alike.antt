@@ -20,8 +20,8 @@ use Rattle.cursor.proofs.Named.{absent_token}
 use Rattle.cursor.specs.Path.{named}
 use Rattle.cursor.specs.Answers.{Tells, answer_at_path}
 use Rattle.cursor_range.specs.Answers.{TellsTokens}
-use Rattle.query.specs.declared.reply.Reply.{Reply}
 use Rattle.query.specs.declared.reply.Reply.TheVariants as reply
+use Rattle.query.specs.Replies.{of_answer, of_tokens}
 use Rattle.query.proofs.Exact.{reply_to, path_after, other_after, Exactly, exactly}
 use Rattle.abi.specs.Outcomes.{chunk_outcome, SameOutput, answer_told, tokens_told, reply_told}
 use Rattle.abi.proofs.Telling.{same_output}
@@ -32,32 +32,23 @@ use Rattle.utility_types.specs.declared.SyntaxElement.{SyntaxElement}
 use Rattle.utility_types.specs.declared.TokenAtOffset.{TokenAtOffset}
 
 -- an answer as the dispatcher gives it
-abbrev as_reply : OrRefusal (Optional SyntaxElement) → Reply
-as_reply (Ok (Some e)) = reply.Element e
-as_reply (Ok None) = reply.None
-as_reply (Err x) = reply.Refused x
-
-answer_told_lem : (r : OrRefusal (Optional SyntaxElement)) → answer_told r ≡ reply_told (as_reply r)
+answer_told_lem : (r : OrRefusal (Optional SyntaxElement)) → answer_told r ≡ reply_told (of_answer r)
 answer_told_lem (Ok (Some e)) = refl
 answer_told_lem (Ok None) = refl
 answer_told_lem (Err x) = refl
 
-answer_exactly : (l l' : List ℕ) {a : Result query.Answer} (r : OrRefusal (Optional SyntaxElement)) → length l' ≡ 64 → Tells l l' a r → Exactly l l' l' l' a (as_reply r)
-answer_exactly l l' (Ok (Some e)) h t = exactly 0 h h (reply.Element e) t.says (t.kept, refl)
-answer_exactly l l' (Ok None) h t = exactly 0 h h reply.None t.says (t.kept, refl)
-answer_exactly l l' (Err x) h t = exactly 0 h h (reply.Refused x) t.says (t.kept, refl)
+answer_exactly : (l l' : List ℕ) {a : Result query.Answer} (r : OrRefusal (Optional SyntaxElement)) → length l' ≡ 64 → Tells l l' a r → Exactly l l' l' l' a (of_answer r)
+answer_exactly l l' (Ok (Some e)) h t = exactly 0 h h (Ok (reply.Element e)) t.says (t.kept, refl)
+answer_exactly l l' (Ok None) h t = exactly 0 h h (Ok reply.None) t.says (t.kept, refl)
+answer_exactly l l' (Err x) h t = exactly 0 h h (Err x) t.says (t.kept, refl)
 
-abbrev tokens_reply : OrRefusal TokenAtOffset → Reply
-tokens_reply (Ok t) = reply.Tokens t
-tokens_reply (Err x) = reply.Refused x
-
-tokens_told_lem : (r : OrRefusal TokenAtOffset) → tokens_told r ≡ reply_told (tokens_reply r)
+tokens_told_lem : (r : OrRefusal TokenAtOffset) → tokens_told r ≡ reply_told (of_tokens r)
 tokens_told_lem (Ok t) = refl
 tokens_told_lem (Err x) = refl
 
-tokens_exactly : (l l' m m' : List ℕ) {a : Result query.Answer} (r : OrRefusal TokenAtOffset) → length l' ≡ 64 → length m' ≡ 64 → TellsTokens l l' m m' a r → Exactly l m l' m' a (tokens_reply r)
-tokens_exactly l l' m m' (Ok t) h k e = exactly 0 h k (reply.Tokens t) e.says e.kept
-tokens_exactly l l' m m' (Err x) h k e = exactly 0 h k (reply.Refused x) e.says e.kept
+tokens_exactly : (l l' m m' : List ℕ) {a : Result query.Answer} (r : OrRefusal TokenAtOffset) → length l' ≡ 64 → length m' ≡ 64 → TellsTokens l l' m m' a r → Exactly l m l' m' a (of_tokens r)
+tokens_exactly l l' m m' (Ok t) h k e = exactly 0 h k (Ok (reply.Tokens t)) e.says e.kept
+tokens_exactly l l' m m' (Err x) h k e = exactly 0 h k (Err x) e.says e.kept
 
 -- two calls of equal answers: outcome, words and paths are equal
 module _ {a a' : Result query.Answer} (e : a ≡ a') {l l₁ l₂ m m₁ m₂ : List ℕ} {x₁ x₂ : ℕ} (h : length l₁ ≡ 64) (k : length l₂ ≡ 64) where

@@ -17,7 +17,7 @@ use Rattle.cursor.specs.declared.position.Cursor.{Cursor}
 use Rattle.cursor.specs.Position.{Placed}
 use Rattle.cursor.proofs.Named.{Names}
 use Rattle.utility_types.specs.declared.Refusal.TheVariants.{NoSuchElement}
-use Rattle.abi.specs.Outcomes.{told, chunk_outcome, refused_by, OutputWritten}
+use Rattle.abi.specs.Outcomes.{with_words, chunk_outcome, refused_by, OutputWritten}
 use Rattle.cursor_ffi.specs.Exports.{token_of, named_token, TextLies, TokenText}
 
 by_name : {es : List Entry} {r depth : ℕ} {l : List ℕ} {o : Option Element} → Names es r depth l o → named_token es r depth l ≡ bind o token_of
@@ -63,7 +63,7 @@ module _ {s : Store} {c : Cursor} (p : Placed s c) (h : is_node (tree_at (entrie
   all : k ≡ text_len (tree_at (entries s) c.number)
   all = omega (arith, ap length text_here, text_length (tree_at (entries s) c.number), length-take (f + k - f) (drop f s.text), length-drop f s.text, text_within)
 
-  pub text_lies : {root : ℕ} {q : List ℕ} → number_at (entries s) root q ≡ some c.number → {m m' : List ℕ} {x : ℕ} → OutputWritten (told chunk_outcome (f ∷ (f + k) ∷ [])) m m' x
+  pub text_lies : {root : ℕ} {q : List ℕ} → number_at (entries s) root q ≡ some c.number → {m m' : List ℕ} {x : ℕ} → OutputWritten (with_words chunk_outcome (f ∷ (f + k) ∷ [])) m m' x
       → TextLies (entries s) s.text root q (tree_at (entries s) c.number) m m' x
   text_lies r w = record {
     number = c.number;

@@ -14,7 +14,7 @@ use Rattle.cursor.specs.Path.{named}
 use Rattle.cursor.specs.Answers.{Tells, answer_at_path}
 use Rattle.cursor_range.specs.Answers.{TellsTokens}
 use Rattle.utility_types.specs.declared.Refusal.TheVariants.{NoSuchElement}
-use Rattle.abi.specs.Outcomes.{told, chunk_outcome, refused_by, OutputWritten, answer_told, tokens_told}
+use Rattle.abi.specs.Outcomes.{with_words, chunk_outcome, refused_by, OutputWritten, answer_told, tokens_told}
 use Rattle.utility_types.specs.Numbers.{OrRefusal}
 use Rattle.utility_types.specs.declared.SyntaxElement.{SyntaxElement}
 use Rattle.utility_types.specs.declared.TokenAtOffset.{TokenAtOffset}
@@ -55,7 +55,7 @@ pub record TextLies (es : List Entry) (b : List ℕ) (root : ℕ) (p : List ℕ)
   pub used : first_of es number + text_len t ≤ text_bytes es
   pub within : first_of es number + text_len t ≤ length b
   pub bytes : take (text_len t) (drop (first_of es number) b) ≡ text t
-  pub written : OutputWritten (told chunk_outcome (first_of es number ∷ (first_of es number + text_len t) ∷ [])) m m' x
+  pub written : OutputWritten (with_words chunk_outcome (first_of es number ∷ (first_of es number + text_len t) ∷ [])) m m' x
 
 -- and 4 where a path names no token
 pub record TokenText (es : List Entry) (b : List ℕ) (root : ℕ) (p : List ℕ) (o : Option Tree) (m m' : List ℕ) (x : ℕ) : Type 0 where

@@ -8,6 +8,7 @@ ghost use Rattle.cursor.specs.Answers.{answer_at_path};
 ghost use Rattle.cursor_ffi.specs.Exports.{Asks, QuestionExported};
 
 use abi::{Words, answer};
+use cursor::path::Path;
 use cursor_node::{element, siblings};
 use green::Store;
 
@@ -20,7 +21,12 @@ pub fn notes_parent(
 ) -> usize
     ensures { QuestionExported (answer_at_path (entries (view store.entry)) root depth path.now Question.parent) path.now path.now words.old words.new result }
 {
-    let found = element::parent(store, root, path, depth);
+    let from = Path {
+        root,
+        indexes: path,
+        depth,
+    };
+    let found = element::parent(store, from);
     answer::put_answer(words, found)
 }
 

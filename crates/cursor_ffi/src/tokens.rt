@@ -5,8 +5,8 @@ ghost use Rattle.green.specs.View.{view};
 ghost use Rattle.cursor_ffi.specs.Exports.{Asks, AsksText};
 
 use abi::{Words, answer};
-use cursor::path::Remember;
-use cursor::{path, position};
+use cursor::path::{Path, Remember};
+use cursor::position;
 use cursor_token::{adjacent, edge};
 use green::Store;
 use utility_types::{NodeOrToken, Refusal};
@@ -72,7 +72,12 @@ pub fn notes_token_text(
 ) -> usize
     ensures { AsksText (view store.entry) root depth path words result }
 {
-    let found = path::locate(store, root, path, depth, Remember::Parent);
+    let named = Path {
+        root,
+        indexes: path,
+        depth,
+    };
+    let found = named.locate(store, Remember::Parent);
     let Ok(place) = found else {
         return answer::refused(Refusal::NoSuchElement);
     };
@@ -83,5 +88,5 @@ pub fn notes_token_text(
     let n = at.number;
     let from = store.first_of(n);
     let to = from + store.count_of(n);
-    answer::put_chunk(words, 0, from, to)
+    answer::put_part(words, from, to)
 }

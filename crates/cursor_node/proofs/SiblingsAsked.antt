@@ -24,17 +24,15 @@ use Rattle.cursor.specs.declared.path.Remember.TheVariants.{Parent}
 use Rattle.cursor.specs.declared.path.Place.{Place}
 use Rattle.cursor.specs.Position.{at, child_count}
 use Rattle.cursor.specs.Path.{Leads}
-use Rattle.cursor.specs.Answers.{Tells, answer_at_path}
+use Rattle.cursor.specs.Answers.{answer_at_path}
 use Rattle.cursor.proofs.Positions.{children_count}
-use Rattle.cursor.proofs.Telling.{told_as}
-use Rattle.cursor.proofs.Asking.{answer_none, answer_of_lem, refused_by_lem, refused_named, refused_4, located_named}
+use Rattle.cursor.proofs.Asking.{answer_none, answer_of_lem, refused_named, refused_4, located_named}
 use Rattle.cursor.proofs.AskingNodes.{of_node_node, of_node_token}
 use Rattle.cursor_node.specs.Children.{ahead, nearest}
-use Rattle.cursor_node.specs.Siblings.{sibling_question, siblings_left, IsChild, IsParentAndIndex}
+use Rattle.cursor_node.specs.Siblings.{sibling_question, siblings_left, IsParentAndIndex}
 use Rattle.cursor_node.proofs.ElementAsked.{root_orphan, parent_above, parent_is}
-use Rattle.std.specs.Prelude.{Ok, Err, Some, None, Option as Optional}
+use Rattle.std.specs.Prelude.{Ok, Err, Some, None}
 use Rattle.utility_types.specs.Numbers.{OrRefusal}
-use Rattle.utility_types.specs.declared.SyntaxElement.{SyntaxElement}
 
 -- with tokens every element is offered, otherwise nodes only
 abbrev pub IsOffered : Bool → Tree → Type 0
@@ -105,22 +103,3 @@ module _ {s : Store} {r depth : ℕ} {l : List ℕ} {x : OrRefusal Place} (d : L
                   (ap (λ z. maybe (nearest y (offered tokens z))) (beside_ahead y (children (at es (take c.depth l) c)) (sym (children_count a.inner (take c.depth l))) w));
             };
           }
-
--- sibling_towards, by what parent_and_index says
-module _ {s : Store} {r depth : ℕ} {l : List ℕ} {tokens : Bool} {x : OrRefusal (Optional (Cursor × ℕ))} (f : IsParentAndIndex s r depth l tokens x) (y : Direction) where
-  pub no_siblings : {why : Refusal} → x ≡ Err why → Tells l l (answer_at_path (entries s) r depth l (sibling_question y tokens)) (Err why)
-  no_siblings e = let z = rw e at f.facts in refused_by_lem z.0 (z.1 y)
-
-  pub root_told : x ≡ (Ok None) → Tells l l (answer_at_path (entries s) r depth l (sibling_question y tokens)) (Ok None)
-  root_told e = record { says = sym ((rw e at f.facts) y); kept = refl }
-
-pub is_child : {s : Store} {r depth : ℕ} {l : List ℕ} {tokens : Bool} {x : OrRefusal (Optional (Cursor × ℕ))} → IsParentAndIndex s r depth l tokens x → {c : Cursor} {i : ℕ} → x ≡ Ok (Some (c, i))
-    → IsChild s r depth l tokens c i
-is_child f e = rw e at f.facts
-
-pub sibling_told : {s : Store} {r depth : ℕ} {l : List ℕ} {tokens : Bool} {c : Cursor} {i : ℕ} → IsChild s r depth l tokens c i → (y : Direction) {n left : ℕ}
-    → n ≡ child_count (entries s) c → left ≡ siblings_left y n i → {l' : List ℕ} {a : OrRefusal (Optional SyntaxElement)}
-    → Tells l l' (maybe (nearest y (offered tokens (ahead y (children (at (entries s) (take c.depth l) c)) left)))) a
-    → Tells l l' (answer_at_path (entries s) r depth l (sibling_question y tokens)) a
-sibling_told {s} {l = l} {tokens} {c} {i} k y e el t =
-    told_as t (ap (λ v. maybe (nearest y (offered tokens (ahead y (children (at (entries s) (take c.depth l) c)) v)))) (el ∙ ap (λ n. siblings_left y n i) e) ∙ sym (k.siblings y))

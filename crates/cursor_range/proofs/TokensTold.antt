@@ -1,14 +1,12 @@
 -- What `token_at_offset` answers with the two paths that were lent. Assumes nothing.
-use Prim.Native.Nat.{ℕ, ◌+◌, ◌-◌, ◌≤◌, ◌<◌}
+use Prim.Native.Nat.{ℕ, ◌+◌, ◌-◌, ◌≤◌}
 use native.Mathlib.Omega.{arith}
-use native.Mathlib.Nat.{zero-add}
-use native.Mathlib.Numerals.{add-one}
 use mathlib.Core.Path.{◌≡◌, refl, sym, ap, ◌∙◌}
 use mathlib.Core.List.{List, [], ◌∷◌, ◌++◌, map}
 use mathlib.Core.Bool.{Bool, true, false, cond, ◌||◌}
 use lib.Dec.{ltb}
-use lib.ListN.{length, get_or, take, drop, set}
-use lib.Seq.{slice, paste-suc, length-take-le, take-add, take-append-add, drop-append-add, drop-drop, drop_at}
+use lib.ListN.{length, take, drop}
+use lib.Seq.{slice, length-take-le, take-add, take-append-add, drop-append-add, drop-drop, drop_at}
 use borrow.Author.Tests.{ltb-false}
 use Rattle.definitions.specs.Prelude.{Result, ok, refused}
 use Rattle.definitions.specs.Tree.{text_len}
@@ -25,33 +23,16 @@ use Rattle.utility_types.specs.declared.Refusal.TheVariants.{OutOfRange}
 use Rattle.definitions.proofs.Laws.{false≢true}
 use Rattle.green.specs.Store.{Store, entries}
 use Rattle.cursor.specs.declared.position.Cursor.{Cursor}
-use Rattle.cursor.specs.Position.{at, Placed, Reached}
+use Rattle.cursor.specs.Position.{at, Reached}
 use Rattle.cursor.specs.Path.{LeadsToNode}
 use Rattle.cursor.specs.Answers.{answer_at_path}
 use Rattle.cursor.proofs.Reaching.{path_joined}
 use Rattle.cursor.proofs.AskingNodes.{of_node_token, no_node_4, no_node_asked, node_facts, node_asked}
 use Rattle.cursor_range.specs.declared.tokens.Hits.{Hits}
-use Rattle.cursor_range.specs.declared.tokens.Hits.TheVariants.{Nothing, Single, Between}
 use Rattle.cursor_range.specs.Offset.{InClosedRange, Finds, TokensFound}
-use Rattle.cursor_range.specs.Answers.{AllPlaced, Told, nothing, single, between, right_path, TellsTokens}
+use Rattle.cursor_range.specs.Answers.{Told, nothing, single, between, right_path, TellsTokens}
 use Rattle.std.specs.Prelude.{Ok, Err}
 use Rattle.utility_types.specs.Numbers.{OrRefusal}
-
--- one more index is copied
-pub copy_more : (d s : List ℕ) (i : ℕ) {t : List ℕ} → t ≡ take i s ++ drop i d → i < length d → i < length s → set t i (get_or s i 0) ≡ take (i + 1) s ++ drop (i + 1) d
-copy_more d s i e h g = rw (e, add-one) (simp zero-add at (paste-suc d 0 s i 0 (omega arith) g))
-
--- what is found is in order
-pub placed_one : {s : Store} {h : Hits} {a : Cursor} → h ≡ Single a → AllPlaced s h → Placed s a
-placed_one e p = rw e at p
-
-pub placed_two : {s : Store} {h : Hits} {a b : Cursor} → h ≡ Between a b → AllPlaced s h → Placed s a × Placed s b
-placed_two e p = rw e at p
-
-pub all_placed : {s : Store} {d : ℕ} {tokens : List ℕ → List Element} {l l' r r' : List ℕ} {h : Hits} → Finds s d tokens l l' r r' h → AllPlaced s h
-all_placed {h = Nothing} f = tt
-all_placed {h = Single a} f = f.written.0.placed
-all_placed {h = Between a b} f = (f.written.0.placed, f.written.1.placed)
 
 -- the path to the right one of two tokens, once the one that was asked is copied before it
 module _ {s : Store} {d : ℕ} {r r' : List ℕ} {b : Cursor} (w : Reached s d r r' b) (p : List ℕ) (e : length p ≡ d) (h : d ≤ length r') where

@@ -8,7 +8,8 @@ ghost use Rattle.cursor_range.specs.Answers.{AllPlaced, right_path, Told, Answer
 
 use crate::tokens;
 use crate::tokens::Hits;
-use cursor::{path, position};
+use cursor::path::Path;
+use cursor::position;
 use green::Store;
 use utility_types::{Refusal, TokenAtOffset};
 
@@ -65,11 +66,16 @@ pub fn token_at_offset(
 ) -> Result<TokenAtOffset, Refusal>
     ensures { AnswersTokens (view store.entry) root depth left right offset result }
 {
-    let at = path::locate_node(store, root, left, depth)?;
+    let from = Path {
+        root,
+        indexes: left,
+        depth,
+    };
+    let at = from.locate_node(store)?;
     let len = position::text_len(store, at);
     if is_outside(at.start, at.start + len, offset) {
         return Err(Refusal::OutOfRange);
     }
-    let found = tokens::node_tokens(store, at, offset, left, right);
+    let found = tokens::node_tokens(&store, at, offset, left, right);
     Ok(tell(store, found, depth, left, right))
 }

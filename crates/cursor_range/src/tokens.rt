@@ -85,20 +85,20 @@ fn both(before: Hits, after: Hits) -> Hits
 }
 
 // The tokens at an offset that a node holds: those of the children that hold it, one level lower.
-// The right one of two children leaves its indexes in `right`.
+// The right one of two children leaves its indexes in `right`. The store comes by reference, since its words would go by memory at each level.
 #[cycle(element_tokens_node_tokens)]
 pub fn node_tokens(
-    store: Store<'_, '_>,
+    store: &Store<'_, '_>,
     at: Cursor,
     x: usize,
     left: &mut [u32],
     right: &mut [u32],
 ) -> Hits
-    requires inner { Inner (view store) at × InClosedRange (entries (view store)) at x }
+    requires inner { Inner (view store.now) at × InClosedRange (entries (view store.now)) at x }
     requires in_bounds { (64 ≤ length left.old) × (64 ≤ length right.old) }
-    ensures { TokensFound (view store.entry) at x left.old left.new right.old right.new result }
+    ensures { TokensFound (view store.now) at x left.old left.new right.old right.new result }
 {
-    let touching = touching_children(store, at, x);
+    let touching = touching_children(*store, at, x);
     match touching {
         Touching::NoChild => Hits::Nothing,
         Touching::Child(k) => element_tokens(store, at, k, x, left, right),
@@ -114,20 +114,20 @@ pub fn node_tokens(
 // Its index is written once the tokens below it are found.
 #[cycle(element_tokens_node_tokens)]
 fn element_tokens(
-    store: Store<'_, '_>,
+    store: &Store<'_, '_>,
     parent: Cursor,
     k: usize,
     x: usize,
     left: &mut [u32],
     right: &mut [u32],
 ) -> Hits
-    requires inner { Inner (view store) parent × ChildInRange (entries (view store)) parent x k }
+    requires inner { Inner (view store.now) parent × ChildInRange (entries (view store.now)) parent x k }
     requires in_bounds { (64 ≤ length left.old) × (64 ≤ length right.old) }
-    ensures { ChildTokensFound (view store.entry) parent k x left.old left.new right.old right.new result }
+    ensures { ChildTokensFound (view store.now) parent k x left.old left.new right.old right.new result }
 {
     let depth = parent.depth;
-    let at = position::child(store, parent, k);
-    let NodeOrToken::Node(_) = position::node_or_token(store, at) else {
+    let at = position::child(*store, parent, k);
+    let NodeOrToken::Node(_) = position::node_or_token(*store, at) else {
         left[depth] = k as u32;
         return Hits::Single(at);
     };

@@ -1,10 +1,12 @@
 // Calls 10 to 14. A call's words are read first, and then it is put to the port, and then its reply is printed.
 
-ghost use Rattle.green.specs.Store.{store};
 ghost use Rattle.green.specs.Valid.{Valid};
+ghost use Rattle.green.specs.View.{view_edits, SameEditPlaces};
 
+use cursor::path::{MOST_INDEXES, Path};
 use files::out::Output;
 use green::Counts;
+use green::store_mut::EditStore;
 use replies::show::Shown;
 use script::call::Call;
 use script::fault::Fault;
@@ -12,155 +14,118 @@ use script::op::Op;
 use utility_types::Refusal;
 
 // How many new elements a splice has at most.
-const MOST_NEW: u32 = 4200;
+const MOST_NEW: usize = 4200;
 
-// An edit by the numbers that it names. A splice's new elements and a replacement's path are in lent places.
-#[derive(Clone, Copy)]
-enum Edit<'a> {
-    ReplaceChild {
-        node: usize,
-        index: usize,
-        new: usize,
-    },
-    InsertChild {
-        node: usize,
-        index: usize,
-        new: usize,
-    },
-    RemoveChild {
-        node: usize,
-        index: usize,
-    },
-    SpliceChildren {
-        node: usize,
-        start: usize,
-        end: usize,
-        new: &'a [u32],
-    },
-    ReplaceWith {
-        root: usize,
-        path: &'a [u32; 64],
-        depth: usize,
-        new: usize,
-    },
+// What an edit made, and the counts in use after it.
+fn put_made(out: &mut Output, made: Result<usize, Refusal>, used: &Counts) {
+    out.put_line(format_args!("{} store {}", Shown(made), Shown(used)));
 }
 
-// Calls 10 and 11: a node, an index among its children, and a new element.
-fn read_new_child<'a>(call: &mut Call, op: Op) -> Result<Edit<'a>, Fault> {
+// Call 10: a node, an index among its children, and a new element.
+fn replace_child(call: &mut Call, out: &mut Output, store: &mut EditStore<'_>) -> Result<(), Fault>
+    requires { Valid (view_edits store.old) }
+    ensures valid { Valid (view_edits store.new) }
+    ensures same { SameEditPlaces store.old store.new }
+{
     call.exactly(3)?;
     let node = call.word()? as usize;
     let index = call.word()? as usize;
     let new = call.word()? as usize;
-    Ok(match op {
-        Op::ReplaceChild => Edit::ReplaceChild { node, index, new },
-        _ => Edit::InsertChild { node, index, new },
-    })
+    let made = edits::replace_child(store, node, index, new);
+    put_made(out, made, store.used);
+    Ok(())
+}
+
+// Call 11: the same words.
+fn insert_child(call: &mut Call, out: &mut Output, store: &mut EditStore<'_>) -> Result<(), Fault>
+    requires { Valid (view_edits store.old) }
+    ensures valid { Valid (view_edits store.new) }
+    ensures same { SameEditPlaces store.old store.new }
+{
+    call.exactly(3)?;
+    let node = call.word()? as usize;
+    let index = call.word()? as usize;
+    let new = call.word()? as usize;
+    let made = edits::insert_child(store, node, index, new);
+    put_made(out, made, store.used);
+    Ok(())
 }
 
 // Call 12: a node, and an index among its children.
-fn read_old_child<'a>(call: &mut Call) -> Result<Edit<'a>, Fault> {
+fn remove_child(call: &mut Call, out: &mut Output, store: &mut EditStore<'_>) -> Result<(), Fault>
+    requires { Valid (view_edits store.old) }
+    ensures valid { Valid (view_edits store.new) }
+    ensures same { SameEditPlaces store.old store.new }
+{
     call.exactly(2)?;
     let node = call.word()? as usize;
     let index = call.word()? as usize;
-    Ok(Edit::RemoveChild { node, index })
+    let made = edits::remove_child(store, node, index);
+    put_made(out, made, store.used);
+    Ok(())
 }
 
 // Call 13: a node, a range of its children, and then the new elements.
-fn read_splice<'a>(call: &mut Call, new: &'a mut [u32; 4200]) -> Result<Edit<'a>, Fault> {
-    let count = call.left.checked_sub(3).ok_or(Fault::Misfit)?;
+fn splice_children(
+    call: &mut Call,
+    out: &mut Output,
+    store: &mut EditStore<'_>,
+) -> Result<(), Fault>
+    requires { Valid (view_edits store.old) }
+    ensures valid { Valid (view_edits store.new) }
+    ensures same { SameEditPlaces store.old store.new }
+{
+    let count = call.left.checked_sub(3).ok_or(Fault::Misfit)? as usize;
     if MOST_NEW < count {
         return Err(Fault::ManyNew);
     }
     let node = call.word()? as usize;
     let start = call.word()? as usize;
     let end = call.word()? as usize;
-    let new = &mut new[..count as usize];
+    let mut room = [0u32; MOST_NEW];
+    let new = &mut room[..count];
     call.fill(new)?;
-    Ok(Edit::SpliceChildren {
-        node,
-        start,
-        end,
-        new,
-    })
+    let made = edits::splice_children(store, node, start, end, new);
+    put_made(out, made, store.used);
+    Ok(())
 }
 
 // Call 14: a new element, and a path.
-fn read_replacement<'a>(call: &mut Call, path: &'a mut [u32; 64]) -> Result<Edit<'a>, Fault> {
-    let new = call.word()? as usize;
-    let of = call.last_path(path)?;
-    Ok(Edit::ReplaceWith {
-        root: of.root,
-        path,
-        depth: of.depth,
-        new,
-    })
-}
-
-fn read<'a>(
-    call: &mut Call,
-    op: Op,
-    path: &'a mut [u32; 64],
-    new: &'a mut [u32; 4200],
-) -> Result<Edit<'a>, Fault> {
-    match op {
-        Op::SpliceChildren => read_splice(call, new),
-        Op::ReplaceWith => read_replacement(call, path),
-        Op::RemoveChild => read_old_child(call),
-        _ => read_new_child(call, op),
-    }
-}
-
-fn make(
-    records: &mut [u64],
-    children: &mut [u64],
-    text: &[u8],
-    used: &mut Counts,
-    edit: Edit,
-) -> Result<usize, Refusal>
-    requires { Valid (store records.old children.old text.now used.old) }
-    ensures { Valid (store records.new children.new text.now used.new) }
+fn replace_with(call: &mut Call, out: &mut Output, store: &mut EditStore<'_>) -> Result<(), Fault>
+    requires { Valid (view_edits store.old) }
+    ensures valid { Valid (view_edits store.new) }
+    ensures same { SameEditPlaces store.old store.new }
 {
-    match edit {
-        Edit::ReplaceChild { node, index, new } => {
-            edits::replace_child(records, children, text, used, node, index, new)
-        }
-        Edit::InsertChild { node, index, new } => {
-            edits::insert_child(records, children, text, used, node, index, new)
-        }
-        Edit::RemoveChild { node, index } => {
-            edits::remove_child(records, children, text, used, node, index)
-        }
-        Edit::SpliceChildren {
-            node,
-            start,
-            end,
-            new,
-        } => edits::splice_children(records, children, text, used, node, start, end, new),
-        Edit::ReplaceWith {
-            root,
-            path,
-            depth,
-            new,
-        } => replace_with::replace_with(records, children, text, used, root, path, depth, new),
-    }
+    let new = call.word()? as usize;
+    let mut path = [0u32; MOST_INDEXES];
+    let of = call.last_path(&mut path)?;
+    let replaced = Path {
+        root: of.root,
+        indexes: &path,
+        depth: of.depth,
+    };
+    let made = replace_with::replace_with(store, replaced, new);
+    put_made(out, made, store.used);
+    Ok(())
 }
 
+// None where the call is no edit.
 pub fn answer(
     call: &mut Call,
     op: Op,
     out: &mut Output,
-    records: &mut [u64],
-    children: &mut [u64],
-    text: &[u8],
-    used: &mut Counts,
-) -> Result<(), Fault>
-    requires { Valid (store records.old children.old text.now used.old) }
-    ensures { Valid (store records.new children.new text.now used.new) }
+    store: &mut EditStore<'_>,
+) -> Option<Result<(), Fault>>
+    requires { Valid (view_edits store.old) }
+    ensures valid { Valid (view_edits store.new) }
+    ensures same { SameEditPlaces store.old store.new }
 {
-    let mut path = [0u32; 64];
-    let mut new = [0u32; 4200];
-    let edit = read(call, op, &mut path, &mut new)?;
-    let made = make(records, children, text, used, edit);
-    out.put_line(format_args!("{} store {}", Shown(made), Shown(&*used)));
-    Ok(())
+    Some(match op {
+        Op::ReplaceChild => replace_child(call, out, store),
+        Op::InsertChild => insert_child(call, out, store),
+        Op::RemoveChild => remove_child(call, out, store),
+        Op::SpliceChildren => splice_children(call, out, store),
+        Op::ReplaceWith => replace_with(call, out, store),
+        _ => return None,
+    })
 }

@@ -2,11 +2,11 @@
 
 #![tactic(auto)]
 
-ghost use Rattle.green.specs.Store.{store};
 ghost use Rattle.green.specs.Valid.{Valid};
+ghost use Rattle.green.specs.View.{view_events, SameEventPlaces};
 
 use files::out::Output;
-use green::Counts;
+use green::store_mut::{EditStore, EventStore};
 use script::call::Call;
 use script::fault::Fault;
 use script::op::Op;
@@ -14,22 +14,29 @@ use script::op::Op;
 mod edit;
 mod runs;
 
-// Calls 2, 3 and 10 to 14.
+// Calls 2, 3 and 10 to 14; none where it is another call.
 pub fn answer(
     call: &mut Call,
-    op: Op,
     out: &mut Output,
-    records: &mut [u64],
-    children: &mut [u64],
-    text: &mut [u8],
-    used: &mut Counts,
-) -> Result<(), Fault>
-    requires { Valid (store records.old children.old text.old used.old) }
-    ensures { Valid (store records.new children.new text.new used.new) }
+    store: &mut EventStore<'_>,
+) -> Option<Result<(), Fault>>
+    requires { Valid (view_events store.old) }
+    ensures valid { Valid (view_events store.new) }
+    ensures same { SameEventPlaces store.old store.new }
 {
+    let op = call.op?;
     match op {
-        Op::Run => runs::run(call, out, records, children, text, used),
-        Op::RunEvents => runs::run_events(call, out, records, children, text, used),
-        _ => edit::answer(call, op, out, records, children, text, used),
+        Op::Run => Some(runs::run(call, out, store)),
+        Op::RunEvents => Some(runs::run_events(call, out, store)),
+        _ => {
+            // the text is lent as the other places are: a `&` of it would read the struct while they are lent
+            let mut store = EditStore {
+                records: &mut *store.records,
+                children: &mut *store.children,
+                text: &mut *store.text,
+                used: &mut *store.used,
+            };
+            edit::answer(call, op, out, &mut store)
+        }
     }
 }

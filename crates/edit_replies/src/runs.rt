@@ -1,12 +1,13 @@
 // Calls 2 and 3: the run of a sheet, each with a builder of its own.
 
-ghost use Rattle.green.specs.Store.{stores, store};
+ghost use Rattle.green.specs.View.{view_events, event_stores, SameEventPlaces};
 ghost use Rattle.green.specs.Valid.{Valid};
 ghost use Rattle.sheet_run.specs.RunDone.{RunDone};
 
-use builder::state::EventAnswer;
+use builder::state::{EventAnswer, GreenNodeBuilder};
 use files::out::Output;
-use green::{Counts, Store};
+use green::Counts;
+use green::store_mut::EventStore;
 use replies::show::Shown;
 use script::call::Call;
 use script::fault::Fault;
@@ -14,64 +15,29 @@ use sheet::{Ended, format};
 use utility_types::{Refusal, number};
 
 // Any sheet and text: as the run, with a line for each accepted event.
-fn run_each(
-    out: &mut Output,
-    records: &mut [u64],
-    children: &mut [u64],
-    text: &mut [u8],
-    used: &mut Counts,
-    sheet: &[u8],
-    source: &[u8],
-) -> Ended
-    requires { Valid (store records.old children.old text.old used.old) }
-    ensures { RunDone (stores records children text used) sheet.now source.now result }
+fn run_each(out: &mut Output, store: &mut EventStore<'_>, sheet: &[u8], source: &[u8]) -> Ended
+    requires { Valid (view_events store.old) }
+    ensures run_done { RunDone (event_stores store) sheet.now source.now result }
+    ensures same { SameEventPlaces store.old store.new }
 {
     if format::is_malformed(sheet, source) {
         return Err((Refusal::Malformed, 0));
     }
-    let mut parents = [0u32; 128];
-    let mut waiting = [0u32; 4096];
-    let mut registers = [0u32; 64];
-    let mut counts = [0usize; 2];
+    let mut builder = GreenNodeBuilder::new();
     let n = number::u32_at(sheet, 0) as usize;
     let mut at: usize = 0;
     for i in 0..n {
-        let done = sheet_run::step(
-            records,
-            children,
-            text,
-            used,
-            &mut parents,
-            &mut waiting,
-            &mut registers,
-            &mut counts,
-            sheet,
-            source,
-            i,
-            at,
-        );
+        let done = sheet_run::step(store, &mut builder, sheet, source, i, at);
         let answer = done.answer;
         if let EventAnswer::Refused(why) = answer {
             return Err((why, i));
         }
-        out.put_line(format_args!("{} {}", Shown(answer), Shown(&*used)));
+        let lent = store.read();
+        out.put_line(format_args!("{} {}", Shown(answer), Shown(lent.used)));
         at += done.taken as usize;
     }
-    let store = Store {
-        records,
-        children,
-        text,
-        used,
-    };
-    sheet_run::end_run(
-        store,
-        &parents,
-        &waiting,
-        &registers,
-        &counts,
-        &source[at..],
-        n,
-    )
+    let lent = store.read();
+    sheet_run::end_run(lent, &builder, &source[at..], n)
 }
 
 // How a run ended, and the counts in use after it.
@@ -96,29 +62,16 @@ impl<'a> Source<'a> {
 }
 
 // Call 2.
-pub fn run(
-    call: &mut Call,
-    out: &mut Output,
-    records: &mut [u64],
-    children: &mut [u64],
-    text: &mut [u8],
-    used: &mut Counts,
-) -> Result<(), Fault>
-    requires { Valid (store records.old children.old text.old used.old) }
-    ensures { Valid (store records.new children.new text.new used.new) }
+pub fn run(call: &mut Call, out: &mut Output, store: &mut EventStore<'_>) -> Result<(), Fault>
+    requires { Valid (view_events store.old) }
+    ensures valid { Valid (view_events store.new) }
+    ensures same { SameEventPlaces store.old store.new }
 {
     let of = Source::read(call)?;
     let mut yields = [0u32; 4096];
-    let ended = sheet_run::run_alone(
-        records,
-        children,
-        text,
-        used,
-        &mut yields,
-        of.sheet,
-        of.text,
-    );
-    put_ended(out, ended, used);
+    let ended = sheet_run::run_alone(store, &mut yields, of.sheet, of.text);
+    let lent = store.read();
+    put_ended(out, ended, lent.used);
     Ok(())
 }
 
@@ -126,16 +79,15 @@ pub fn run(
 pub fn run_events(
     call: &mut Call,
     out: &mut Output,
-    records: &mut [u64],
-    children: &mut [u64],
-    text: &mut [u8],
-    used: &mut Counts,
+    store: &mut EventStore<'_>,
 ) -> Result<(), Fault>
-    requires { Valid (store records.old children.old text.old used.old) }
-    ensures { Valid (store records.new children.new text.new used.new) }
+    requires { Valid (view_events store.old) }
+    ensures valid { Valid (view_events store.new) }
+    ensures same { SameEventPlaces store.old store.new }
 {
     let of = Source::read(call)?;
-    let ended = run_each(out, records, children, text, used, of.sheet, of.text);
-    put_ended(out, ended, used);
+    let ended = run_each(out, store, of.sheet, of.text);
+    let lent = store.read();
+    put_ended(out, ended, lent.used);
     Ok(())
 }

@@ -1,5 +1,5 @@
 -- What is known of a number that names an entry: where its words lie, and what each says. Assumes nothing.
-use Prim.Native.Nat.{ℕ, suc, ◌+◌, ◌*◌, ◌/◌, ◌%◌, ◌≤◌, ◌<◌}
+use Prim.Native.Nat.{ℕ, suc, ◌+◌, ◌*◌, ◌/◌, ◌≤◌, ◌<◌}
 use native.Mathlib.Omega.{arith}
 use mathlib.Core.Path.{◌≡◌, refl, sym, ap, ◌∙◌}
 use mathlib.Core.List.{◌∷◌, ◌++◌}
@@ -7,7 +7,7 @@ use mathlib.Core.Bool.{Bool, true, false, cond}
 use lib.ListN.{length, get_or, take, drop}
 use lib.Seq.{split_at}
 use lib.Dec.{ltb}
-use Rattle.definitions.specs.Tree.{Tree, token, node, kind, is_node}
+use Rattle.definitions.specs.Tree.{Tree, token, node, is_node}
 use Rattle.definitions.specs.Entry.{Entry, absent, entry_at, tree_at, child_places, text_bytes, own_bytes}
 use Rattle.definitions.proofs.Limits.{Room, entries_room}
 use Rattle.definitions.proofs.Entries.{child_places_append, text_bytes_append}
@@ -43,13 +43,6 @@ module _ (s : Store) (n : ℕ) (k : Known s n) where
   -- word f is the entry's
   pub field : (f : ℕ) → f < 8 → get_or s.records (n * 8 + f) 0 ≡ get_or (words_of (entries s) n) f 0
   field f h = sym (slice_at s.records (n * 8) (n * 8 + 8) f 0 (omega arith)) ∙ ap (λ ws. get_or ws f 0) (words_at_lem s (entries s) k.valid n k.within)
-
-  -- the head's two parts
-  pub head_tag : (h : ℕ) → h ≡ get_or (words_of (entries s) n) 0 0 → h / 65536 ≡ tag (entry_at (entries s) n)
-  head_tag h e = omega (arith, e, (k.valid.formed n k.within).kind)
-
-  pub head_kind : (h : ℕ) → h ≡ get_or (words_of (entries s) n) 0 0 → h % 65536 ≡ kind (tree_at (entries s) n)
-  head_kind h e = omega (arith, e, (k.valid.formed n k.within).kind)
 
 -- the places of a record lie among those in use
 module _ (s : Store) (n : ℕ) (k : Known s n) where

@@ -81,3 +81,9 @@ pub record Untouched (s s' : Store) : Type 0 where
   pub records : drop (get_or s'.used 0 0 * 8) s'.records ≡ drop (get_or s'.used 0 0 * 8) s.records
   pub children : drop (get_or s'.used 1 0) s'.children ≡ drop (get_or s'.used 1 0) s.children
   pub text : drop (get_or s'.used 2 0) s'.text ≡ drop (get_or s'.used 2 0) s.text
+
+-- as many places are lent after a call as before it
+pub record SameLengths (s s' : Store) : Type 0 where
+  pub records : length s'.records ≡ length s.records
+  pub children : length s'.children ≡ length s.children
+  pub text : length s'.text ≡ length s.text

@@ -1,5 +1,6 @@
 // rowan's green tree over lent places: records of elements, child places and text bytes, and how many of each are in use.
-// `element` and `node` take any number; `record` has the words, and `token` the bytes, of one that is known.
+// `element` takes any number, `node` a node's children, `record` has the words, and `token` the bytes, of one that is known; `store_mut` is the store that
+// is written.
 // specs/ says which entries they spell (Store) and when they are in order (Valid).
 
 #![tactic(auto)]
@@ -10,9 +11,10 @@ ghost use Rattle.green.specs.Valid.{Valid, valid_props};
 pub mod element;
 pub mod node;
 pub mod record;
+pub mod store_mut;
 pub mod token;
 
-// How many of each are in use: records, child places, text bytes. The other places are spare, and 0 in a store that is in order.
+// How many of each are in use: records, child places, text bytes, in an array since C lends it. The other places are spare, and 0 in a store that is in order.
 pub type Counts = [usize; 8];
 
 // The store as it is lent to be read: records of eight words, child places, text bytes, and how many of each are in use.

@@ -1,5 +1,6 @@
 // For the crates above: a record's eight words, in the order that specs/Layout has.
 // They are written by one function, and each is read by one of its own, so that no other module knows their places.
+// Each asks that the record is there by `Known`, which says too that the store is in order, as its type does: a clause of the bound alone is longer.
 
 ghost use Rattle.std.specs.Prelude.{◌≡◌, ◌+◌, ◌*◌, ◌≤◌, ◌<◌, length, get_or};
 ghost use Rattle.std.proofs.lemmas.List.Edits.{sets};
@@ -115,7 +116,8 @@ impl Store<'_, '_> {
     }
 }
 
-// What a new record keeps of its element; the tag is 0 for a token, 1 for a node that an event makes, 2 for a node that an edit makes.
+// What a new record keeps of its element; the tag is 0 for a token, 1 for a node that an event makes, 2 for a node that an edit makes: a number, since it
+// is part of a word in memory that C lends.
 #[derive(Clone, Copy)]
 pub struct Header {
     pub kind: SyntaxKind,

@@ -15,7 +15,8 @@ use Rattle.laws.proofs.TreeEdits.{edit_makes}
 use Rattle.green.specs.Store.{Store, limits, entries}
 use Rattle.green.specs.Valid.{Valid}
 use Rattle.green_new.specs.Done.{entries_after, Done}
-use Rattle.builder.specs.Places.{BuilderPlaces, state_of}
+use Rattle.builder.specs.Builder.{state_of}
+use Rattle.builder.specs.declared.state.GreenNodeBuilder.{GreenNodeBuilder}
 use Rattle.builder.specs.EventDone.{state_after, EventDone}
 use Rattle.builder.specs.declared.state.EventAnswer.{EventAnswer}
 use Rattle.notes_tree.specs.History.{Write, Wrote}
@@ -41,7 +42,7 @@ wrote_valid (Wrote.run yields f d y) = d.valid
 wrote_valid (Wrote.edit d) = d.valid
 
 -- one event of a builder, as `sheet::event::event` ensures it, and so `step` of a sheet's event
-pub event_grows : {s s' : Store} {b b' : BuilderPlaces} {r : EventAnswer} (c k x : ℕ) (left : List ℕ) → EventDone s s' b b' (event (limits s) (state_of s b) c k x left) r → Grows (entries s) (entries s')
+pub event_grows : {s s' : Store} {b b' : GreenNodeBuilder} {r : EventAnswer} (c k x : ℕ) (left : List ℕ) → EventDone s s' b b' (event (limits s) (state_of s b) c k x left) r → Grows (entries s) (entries s')
 event_grows {s} {s'} {b} c k x left d =
     let o = event (limits s) (state_of s b) c k x left in
     let g = state_grows (state_of s b) o (λ a h. (event_accepts (limits s) (state_of s b) a c k x left h).grows) in

@@ -23,7 +23,8 @@ use Rattle.syntax_text_chunks.specs.Chunks.{top_of, ChunkComing, KeptPlace, Chun
 use Rattle.notes_tree.specs.History.{Write, Wrote}
 use Rattle.notes_tree.specs.StillFit.{StillFit}
 use Rattle.notes_tree.proofs.Finding.{passing}
-use Rattle.builder.specs.Places.{BuilderPlaces, builder_of, state_of, BuilderValid}
+use Rattle.builder.specs.Builder.{builder_of, state_of, BuilderValid}
+use Rattle.builder.specs.declared.state.GreenNodeBuilder.{GreenNodeBuilder}
 use Rattle.builder.specs.EventDone.{EventDone}
 use Rattle.builder.specs.declared.state.EventAnswer.{EventAnswer}
 use Rattle.sheet_run.specs.RunDone.{StepDone}
@@ -73,16 +74,10 @@ module _ {s s' : Store} (v : Valid s) (v' : Valid s') (g : Grows (entries s) (en
   pub kept_grown : (r depth : ℕ) (l : List ℕ) (a b given : ℕ) (q : List ℕ) (k : ℕ) → ChunkKept s r depth l a b given q k → ChunkKept s' r depth l a b given q k
   kept_grown r depth l a b given q k x m e = let y = x m e in record { known = omega (arith, longer, y.known); coming = λ d f. stays r depth l a b y.known d f y }
 
-  -- a builder whose places nobody has written
-  grown_builder : (b : BuilderPlaces) → BuilderValid s b → BuilderValid s' b
+  -- a builder that nobody has written
+  grown_builder : (b : GreenNodeBuilder) → BuilderValid s b → BuilderValid s' b
   grown_builder b h = record {
     valid = v';
-    parents_length = h.parents_length;
-    waiting_length = h.waiting_length;
-    registers_length = h.registers_length;
-    counts_length = h.counts_length;
-    open_most = h.open_most;
-    waiting_most = h.waiting_most;
     nested = h.nested;
     events = events_kept (entries s) (entries s') (builder_of b).children g h.events;
   }
@@ -97,10 +92,10 @@ module _ {s s' : Store} (v : Valid s) (v' : Valid s') (g : Grows (entries s) (en
 pub wrote_fit : {s s' : Store} {w : Write} → Valid s → Wrote s s' w → StillFit s s'
 wrote_fit v d = grown_fit v (wrote_valid d) (wrote_grows v d)
 
-pub event_fit : {s s' : Store} {b b' : BuilderPlaces} {r : EventAnswer} (c k x : ℕ) (left : List ℕ) → Valid s → EventDone s s' b b' (event (limits s) (state_of s b) c k x left) r → StillFit s s'
+pub event_fit : {s s' : Store} {b b' : GreenNodeBuilder} {r : EventAnswer} (c k x : ℕ) (left : List ℕ) → Valid s → EventDone s s' b b' (event (limits s) (state_of s b) c k x left) r → StillFit s s'
 event_fit c k x left v d = grown_fit v d.builder_valid.valid (event_grows c k x left d)
 
-pub step_fit : {s s' : Store} {b b' : BuilderPlaces} {sheet source : List ℕ} {i at : ℕ} {r : Outcome} → Valid s → StepDone (both s s') (both b b') sheet source i at r → StillFit s s'
+pub step_fit : {s s' : Store} {b b' : GreenNodeBuilder} {sheet source : List ℕ} {i at : ℕ} {r : Outcome} → Valid s → StepDone (both s s') (both b b') sheet source i at r → StillFit s s'
 step_fit v d = event_fit _ _ _ _ v d.stepped
 
 pub token_fit : {s s' : Store} {r : OrRefusal ℕ} (k : ℕ) (bytes : List ℕ) → Valid s → Done s s' (share (limits s) (entries s) (token_entry k bytes)) r → StillFit s s'

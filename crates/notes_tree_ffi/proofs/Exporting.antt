@@ -23,7 +23,7 @@ use Rattle.query.specs.Answered.{Answered}
 use Rattle.sheet_run.specs.RunDone.{RunDone, YieldsDone}
 use Rattle.notes_tree.specs.History.{Edit, makes}
 use Rattle.notes_tree.specs.Demand3.{WalkDone}
-use Rattle.abi.specs.Outcomes.{told, unknown_outcome, OutputWritten, ended_told, made_told, reply_told, event_told, moved_told, given_told, chunk_told}
+use Rattle.abi.specs.Outcomes.{with_words, unknown_outcome, OutputWritten, ended_told, made_told, reply_told, event_told, moved_told, given_told, chunk_told}
 use Rattle.abi.specs.WalkWords.{walk_coming, walk_depth, walk_start, walk_root, walk_tokens, WalkInWords, moved_on, begun_in, skipped_in}
 use Rattle.notes_tree_ffi.specs.Exports.{RunExported, Edited, EditExported, Replied, QueryExported, WalkBegins, WalkSteps, WalkSkips, WalkGives, ChunkGives}
 use Rattle.notes_tree_ffi.proofs.Going.{run_on_lem, edit_on, next_on, skip_on, chunk_on}
@@ -45,18 +45,18 @@ edit_told e {s} {s'} {m = m} {m'} {r} {x} h d w = record {
   foreign = λ p. absurd (none-ne-some _ (sym p ∙ h));
 }
 
-pub no_edit : {s : Store} {o : Option Edit} {m m' : List ℕ} {x : ℕ} → o ≡ none → OutputWritten (told unknown_outcome []) m m' x → EditExported (both s s) o (both m m') x
+pub no_edit : {s : Store} {o : Option Edit} {m m' : List ℕ} {x : ℕ} → o ≡ none → OutputWritten (with_words unknown_outcome []) m m' x → EditExported (both s s) o (both m m') x
 no_edit h w = record { known = λ e p. absurd (none-ne-some _ (sym h ∙ p)); foreign = λ p. record { store = refl; written = w } }
 
 -- a question of a code, or none
 module _ {s : Store} {root depth : ℕ} {l l' r r' m m' : List ℕ} {x : ℕ} {o : Option Question} where
-  pub replied : {q : Question} {y : Reply} → o ≡ some q → Answered s root depth l r q l' r' y → OutputWritten (reply_told y) m m' x → QueryExported s root depth (both l l') (both r r') o (both m m') x
+  pub replied : {q : Question} {y : OrRefusal Reply} → o ≡ some q → Answered s root depth l r q l' r' y → OutputWritten (reply_told y) m m' x → QueryExported s root depth (both l l') (both r r') o (both m m') x
   replied {q} {y} h a w = record {
     known = λ f p. subst (λ g. Replied s root depth (both l l') (both r r') g (both m m') x) (some-injective _ _ (sym h ∙ p)) (record { reply = y; answered = a; written = w });
     foreign = λ p. absurd (none-ne-some _ (sym p ∙ h));
   }
 
-  pub no_question : o ≡ none → l' ≡ l → r' ≡ r → OutputWritten (told unknown_outcome []) m m' x → QueryExported s root depth (both l l') (both r r') o (both m m') x
+  pub no_question : o ≡ none → l' ≡ l → r' ≡ r → OutputWritten (with_words unknown_outcome []) m m' x → QueryExported s root depth (both l l') (both r r') o (both m m') x
   no_question h f g w = record { known = λ q p. absurd (none-ne-some _ (sym h ∙ p)); foreign = λ p. record { path_kept = f; other_kept = g; written = w } }
 
 -- a walk's words keep their invariant
@@ -112,10 +112,10 @@ skip_told {w} {w'} {coming} {r} long v c d e o =
     let d₂ : walks.WalkSkipped (walk_depth w) (walk_coming w) r = subst (λ y. walks.WalkSkipped (walk_depth w) y r) c d in
     record { moved = r; carried = skip_on d₂; state = e; keeps = subst WalkInWords (sym e) (skip_keeps w r long d.short v); outcome = o }
 
--- a chunk step: the two words of its state are written last
-pub chunk_told_lem : {s : Store} {root depth : ℕ} {l : List ℕ} {start stop given kept outcome : ℕ} {q q' text m m' : List ℕ} {p : Part} {x : ℕ} (w : List ℕ) → 2 ≤ length w
+-- a chunk step: the two words of its state are written last, and its place is left as the call's is
+pub chunk_told_lem : {s : Store} {root depth : ℕ} {l : List ℕ} {start stop given kept outcome : ℕ} {q q' q'' text m m' : List ℕ} {p : Part} {x : ℕ} (w : List ℕ) → 2 ≤ length w
     → ChunkStepped s root depth l start stop (get_or w 0 0) q (get_or w 1 0) given q' kept outcome (part_of text p) → length q' ≡ 64 → PartLies (entries s) root depth l start stop (get_or w 0 0) outcome text p
-    → OutputWritten (chunk_told outcome p.from p.to) m m' x → ChunkGives s root depth l start stop (both w (set (set w 0 given) 1 kept)) (both q q') text (both m m') x
-chunk_told_lem [] h d f i v = absurd (let z : ⊥ = omega (arith, h) in z)
-chunk_told_lem (a ∷ []) h d f i v = absurd (let z : ⊥ = omega (arith, h) in z)
-chunk_told_lem {outcome = outcome} {p = p} (a ∷ b ∷ w) h d f i v = record { part = p; outcome = outcome; stepped = d; carried = chunk_on d f; lies = i; written = v }
+    → OutputWritten (chunk_told outcome p.from p.to) m m' x → q'' ≡ q' → ChunkGives s root depth l start stop (both w (set (set w 0 given) 1 kept)) (both q q'') text (both m m') x
+chunk_told_lem [] h d f i v e = absurd (let z : ⊥ = omega (arith, h) in z)
+chunk_told_lem (a ∷ []) h d f i v e = absurd (let z : ⊥ = omega (arith, h) in z)
+chunk_told_lem {outcome = outcome} {p = p} (a ∷ b ∷ w) h d f i v e = rw e (record { part = p; outcome = outcome; stepped = d; carried = chunk_on d f; lies = i; written = v })

@@ -18,7 +18,7 @@ use Rattle.query.specs.Answered.{Answered}
 use Rattle.sheet_run.specs.RunDone.{RunDone, YieldsDone}
 use Rattle.notes_tree.specs.History.{Write, Call, Edit, makes}
 use Rattle.notes_tree.specs.Demand3.{WalkCall, WalkAnswer, why_no_more, WalkDone}
-use Rattle.abi.specs.Outcomes.{told, unknown_outcome, OutputWritten, ended_told, made_told, reply_told, summary_told, child_told, event_told, moved_told, given_told, chunk_told}
+use Rattle.abi.specs.Outcomes.{with_words, unknown_outcome, OutputWritten, ended_told, made_told, reply_told, summary_told, child_told, event_told, moved_told, given_told, chunk_told}
 use Rattle.abi.specs.WalkWords.{walk_coming, walk_depth, walk_start, walk_root, walk_tokens, WalkInWords, moved_on, begun_in, skipped_in}
 use Rattle.notes_tree_ffi.specs.Goes.{Carries, walk_state, WalkNextDone, WalkSkipDone, ChunkStepDone}
 use Rattle.utility_types.specs.Numbers.{OrRefusal}
@@ -56,7 +56,7 @@ pub record Edited (s : Both Store Store) (e : Edit) (words : LentList) (x : ℕ)
 -- there is no edit of that code
 pub record NoEdit (s : Both Store Store) (words : LentList) (x : ℕ) : Type 0 where
   pub store : s.exit ≡ s.entry
-  pub written : OutputWritten (told unknown_outcome []) words.entry words.exit x
+  pub written : OutputWritten (with_words unknown_outcome []) words.entry words.exit x
 
 pub record EditExported (s : Both Store Store) (o : Option Edit) (words : LentList) (x : ℕ) : Type 0 where
   pub known : (e : Edit) → o ≡ some e → Edited s e words x
@@ -75,7 +75,7 @@ pub record ChildExported (s : Store) (n k : ℕ) (words : LentList) (x : ℕ) : 
 
 -- ANY QUESTION: what `query` promises of the two lent paths and its reply
 pub record Replied (s : Store) (root depth : ℕ) (path other : LentList) (q : Question) (words : LentList) (x : ℕ) : Type 0 where
-  pub reply : Reply
+  pub reply : OrRefusal Reply
   pub answered : Answered s root depth path.entry other.entry q path.exit other.exit reply
   pub written : OutputWritten (reply_told reply) words.entry words.exit x
 
@@ -83,7 +83,7 @@ pub record Replied (s : Store) (root depth : ℕ) (path other : LentList) (q : Q
 pub record NoQuestion (path other words : LentList) (x : ℕ) : Type 0 where
   pub path_kept : path.exit ≡ path.entry
   pub other_kept : other.exit ≡ other.entry
-  pub written : OutputWritten (told unknown_outcome []) words.entry words.exit x
+  pub written : OutputWritten (with_words unknown_outcome []) words.entry words.exit x
 
 pub record QueryExported (s : Store) (root depth : ℕ) (path other : LentList) (o : Option Question) (words : LentList) (x : ℕ) : Type 0 where
   pub known : (q : Question) → o ≡ some q → Replied s root depth path other q words x

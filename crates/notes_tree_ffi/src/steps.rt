@@ -8,10 +8,13 @@ ghost use Rattle.abi.specs.WalkWords.{WalkInWords};
 ghost use Rattle.notes_tree_ffi.specs.Exports.{WalkBegins, WalkSteps, WalkSkips, WalkGives, chunk_given, chunk_kept, ChunkGives};
 
 use abi::{Words, answer, walk as words_of_walk};
+use cursor::path::Path;
 use green::Store;
 use preorder::walk as preorder_walk;
 use preorder_many::walk as many;
+use syntax_text::text::SyntaxText;
 use syntax_text_chunks::chunks;
+use syntax_text_chunks::chunks::Chunks;
 
 // Does nothing: an array that is lent as a slice shows its length to the proof.
 fn show(_words: &[usize]) {}
@@ -30,7 +33,12 @@ pub fn notes_walk_begin(
     ensures { WalkBegins (view store.entry) root (flag with_tokens) depth path.now (list walk) result }
 {
     show(walk);
-    let moved = preorder_walk::begin(store, root, path, depth);
+    let node = Path {
+        root,
+        indexes: path,
+        depth,
+    };
+    let moved = preorder_walk::begin(store, node);
     let tokens = words_of_walk::flag(with_tokens);
     words_of_walk::begin(walk, root, tokens, moved);
     answer::moved(moved)
@@ -108,23 +116,23 @@ pub fn notes_next_chunk(
     ensures { ChunkGives (view store.entry) root depth path.now start end (list state) (list place) (view store.entry).text (list words) result }
 {
     show(state);
-    let mut given = state[0];
-    let mut kept = state[1];
-    let mut outcome: usize = 0;
-    let part = chunks::next_part(
-        store,
-        root,
-        path,
-        depth,
+    let text = SyntaxText {
+        node: Path {
+            root,
+            indexes: path,
+            depth,
+        },
         start,
         end,
-        &mut given,
+    };
+    let mut carried = Chunks {
+        given: state[0],
         place,
-        &mut kept,
-        &mut outcome,
-    );
-    show_path(place);
-    state[0] = given;
-    state[1] = kept;
-    answer::put_chunk(words, outcome, part.from, part.to)
+        kept: state[1],
+    };
+    let came = chunks::next_part(store, text, &mut carried);
+    show_path(carried.place);
+    state[0] = carried.given;
+    state[1] = carried.kept;
+    answer::put_chunk(words, came)
 }

@@ -1,41 +1,37 @@
 // The calls that write a store: the run of a sheet, and one edit.
 
-ghost use Rattle.green.specs.Store.{both, store, stores};
+ghost use Rattle.green.specs.View.{view_edits, view_events, edit_stores, event_stores, SameEditPlaces, SameEventPlaces};
 ghost use Rattle.sheet_run.specs.RunDone.{list};
 ghost use Rattle.notes_tree_ffi.specs.Goes.{HasHistory};
 ghost use Rattle.notes_tree_ffi.specs.Exports.{RunExported, edit_of, EditExported};
 
 use abi::{Words, answer};
-use green::Counts;
+use cursor::path::Path;
+use green::store_mut::{EditStore, EventStore};
 
 // Does nothing: an array that is lent as a slice shows its length to the proof.
 fn show(_words: &[u32]) {}
 
 // A sheet and its text, by a builder of the call's own. What the events yield is lent apart.
 pub fn notes_run(
-    records: &mut [u64],
-    children: &mut [u64],
-    text: &mut [u8],
-    used: &mut Counts,
+    store: &mut EventStore<'_>,
     yields: &mut [u32; 4096],
     sheet: &[u8],
     source: &[u8],
     words: &mut Words,
 ) -> usize
-    requires { HasHistory (store records.old children.old text.old used.old) }
-    ensures { RunExported (stores records children text used) (list yields) sheet.now source.now (list words) result }
+    requires { HasHistory (view_events store.old) }
+    ensures exported { RunExported (event_stores store) (list yields) sheet.now source.now (list words) result }
+    ensures same { SameEventPlaces store.old store.new }
 {
     show(yields);
-    let ended = sheet_run::run_alone(records, children, text, used, yields, sheet, source);
+    let ended = sheet_run::run_alone(store, yields, sheet, source);
     answer::put_ended(words, ended)
 }
 
-// One edit, by its code.
+// One edit, by its code. C gives the code, so any number may come.
 pub fn notes_edit(
-    records: &mut [u64],
-    children: &mut [u64],
-    text: &[u8],
-    used: &mut Counts,
+    store: &mut EditStore<'_>,
     code: usize,
     number: usize,
     from: usize,
@@ -44,34 +40,24 @@ pub fn notes_edit(
     path: &[u32; 64],
     words: &mut Words,
 ) -> usize
-    requires { HasHistory (store records.old children.old text.now used.old) }
-    ensures { EditExported (both (store records.old children.old text.now used.old) (store records.new children.new text.now used.new)) (edit_of code number from to news.now path.now) (list words) result }
+    requires { HasHistory (view_edits store.old) }
+    ensures exported { EditExported (edit_stores store) (edit_of code number from to news.now path.now) (list words) result }
+    ensures same { SameEditPlaces store.old store.new }
 {
-    match code {
-        0 => {
-            let made = edits::replace_child(records, children, text, used, number, from, to);
-            answer::put_made(words, made)
-        }
-        1 => {
-            let made = edits::insert_child(records, children, text, used, number, from, to);
-            answer::put_made(words, made)
-        }
-        2 => {
-            let made = edits::remove_child(records, children, text, used, number, from);
-            answer::put_made(words, made)
-        }
-        3 => {
-            let made = edits::splice_children(
-                records, children, text, used, number, from, to, news,
-            );
-            answer::put_made(words, made)
-        }
+    let made = match code {
+        0 => edits::replace_child(store, number, from, to),
+        1 => edits::insert_child(store, number, from, to),
+        2 => edits::remove_child(store, number, from),
+        3 => edits::splice_children(store, number, from, to, news),
         4 => {
-            let made = replace_with::replace_with(
-                records, children, text, used, number, path, from, to,
-            );
-            answer::put_made(words, made)
+            let replaced = Path {
+                root: number,
+                indexes: path,
+                depth: from,
+            };
+            replace_with::replace_with(store, replaced, to)
         }
-        _ => answer::UNKNOWN,
-    }
+        _ => return answer::UNKNOWN,
+    };
+    answer::put_made(words, made)
 }

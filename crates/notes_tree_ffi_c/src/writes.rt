@@ -7,6 +7,7 @@ ghost use Rattle.notes_tree_ffi.specs.Exports.{RunExported, edit_of, EditExporte
 
 use abi::Words;
 use green::Counts;
+use green::store_mut::StoreMut;
 
 // A sheet and its text, by a builder of the call's own. What the events yield is lent apart.
 #[unsafe(no_mangle)]
@@ -23,7 +24,13 @@ pub extern "C" fn notes_run(
     requires { HasHistory (store records.old children.old text.old used.old) }
     ensures { RunExported (stores records children text used) (list yields) sheet.now source.now (list words) result }
 {
-    notes_tree_ffi::writes::notes_run(records, children, text, used, yields, sheet, source, words)
+    let mut store = StoreMut {
+        records,
+        children,
+        text,
+        used,
+    };
+    notes_tree_ffi::writes::notes_run(&mut store, yields, sheet, source, words)
 }
 
 // One edit, by its code.
@@ -44,7 +51,11 @@ pub extern "C" fn notes_edit(
     requires { HasHistory (store records.old children.old text.now used.old) }
     ensures { EditExported (both (store records.old children.old text.now used.old) (store records.new children.new text.now used.new)) (edit_of code number from to news.now path.now) (list words) result }
 {
-    notes_tree_ffi::writes::notes_edit(
-        records, children, text, used, code, number, from, to, news, path, words,
-    )
+    let mut store = StoreMut {
+        records,
+        children,
+        text,
+        used,
+    };
+    notes_tree_ffi::writes::notes_edit(&mut store, code, number, from, to, news, path, words)
 }

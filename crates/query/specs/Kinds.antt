@@ -6,6 +6,7 @@ use Rattle.definitions.specs.Prelude.{Result}
 use Rattle.definitions.specs.Query as query
 use Rattle.green.specs.Store.{Store, entries, Lists}
 use Rattle.utility_types.specs.declared.Direction.TheVariants.{Next, Prev}
+use Rattle.cursor.specs.declared.path.Path.{Path}
 use Rattle.cursor.specs.Answers.{Tells}
 use Rattle.query.specs.declared.question.Question.{Question}
 use Rattle.query.specs.declared.question.Question.TheVariants as question
@@ -18,7 +19,7 @@ use Rattle.query.specs.declared.question.PairQuestion.TheVariants as pair
 use Rattle.query.specs.declared.question.Kind.{Kind}
 use Rattle.query.specs.declared.question.Kind.TheVariants as kind
 use Rattle.query.specs.declared.reply.Reply.{Reply}
-use Rattle.query.specs.Answered.{told, question_of, Answered}
+use Rattle.query.specs.Answered.{has_answer, question_of, Answered}
 use Rattle.utility_types.specs.Numbers.{OrRefusal}
 use Rattle.utility_types.specs.declared.SyntaxElement.{SyntaxElement}
 
@@ -60,15 +61,15 @@ question_in (kind.WhereIs n) = question.WhereIs n
 -- x answers q, whatever the second path is
 pub record ElementAnswered (s : Store) (root depth : ℕ) (l : List ℕ) (q : Question) (l' : List ℕ) (x : OrRefusal (Optional SyntaxElement)) : Type 0 where
   pub answer : Result query.Answer
-  pub question : (m : List ℕ) → question_of (entries s) root depth l m q ≡ told answer
+  pub question : (m : List ℕ) → question_of (entries s) root depth l m q ≡ has_answer answer
   pub tells : Tells l l' answer x
 
 -- the same from what an `ensures` has, and of a reply that changes no path
 abbrev pub AnswersElement : Store → ℕ → ℕ → Lists → Question → OrRefusal (Optional SyntaxElement) → Type 0
 AnswersElement s root depth path q x = ElementAnswered s root depth path.entry.now q path.exit.now x
 
-abbrev pub RepliesText : {A : Type 0} → Store → ℕ → ℕ → Both (Bor (List ℕ)) A → Question → Reply → Type 0
-RepliesText s root depth path q x = (m : List ℕ) → Answered s root depth path.entry.now m q path.entry.now m x
+abbrev pub RepliesText : Store → Path → Question → OrRefusal Reply → Type 0
+RepliesText s p q x = (m : List ℕ) → Answered s p.root p.depth p.indexes.now m q p.indexes.now m x
 
-abbrev pub RepliesPair : {A B : Type 0} → Store → ℕ → ℕ → Both (Bor (List ℕ)) A → Both (Bor (List ℕ)) B → Question → Reply → Type 0
-RepliesPair s root depth path other q x = Answered s root depth path.entry.now other.entry.now q path.entry.now other.entry.now x
+abbrev pub RepliesPair : {A : Type 0} → Store → Path → Both (Bor (List ℕ)) A → Question → OrRefusal Reply → Type 0
+RepliesPair s p other q x = Answered s p.root p.depth p.indexes.now other.entry.now q p.indexes.now other.entry.now x

@@ -4,6 +4,7 @@ ghost use Rattle.green.specs.View.{view};
 ghost use Rattle.query.specs.Kinds.{element_in, AnswersElement};
 
 use crate::question::ElementQuestion;
+use cursor::path::Path;
 use cursor_node::{children as kids, element, siblings};
 use cursor_range::{cover, range};
 use cursor_token::{adjacent, edge};
@@ -20,8 +21,22 @@ pub fn ask_element(
     ensures { AnswersElement (view store.entry) root depth path (element_in question) result }
 {
     match question {
-        ElementQuestion::Here => { element::element_at(store, root, path, depth) }
-        ElementQuestion::Parent => { element::parent(store, root, path, depth) }
+        ElementQuestion::Here => {
+            let node = Path {
+                root,
+                indexes: path,
+                depth,
+            };
+            element::element_at(store, node)
+        }
+        ElementQuestion::Parent => {
+            let node = Path {
+                root,
+                indexes: path,
+                depth,
+            };
+            element::parent(store, node)
+        }
         ElementQuestion::Child(d, t) => { kids::child_towards(store, root, path, depth, d, t) }
         ElementQuestion::Sibling(d, t) => {
             siblings::sibling_towards(store, root, path, depth, d, t)

@@ -6,61 +6,73 @@ ghost use Rattle.query.specs.Kinds.{text_in, pair_in, RepliesText, RepliesPair};
 use crate::question::{PairQuestion, TextQuestion};
 use crate::reply;
 use crate::reply::Reply;
+use cursor::path::Path;
 use cursor::same;
 use green::Store;
-use syntax_text::{chars, equality, text as texts};
+use syntax_text::text::SyntaxText;
+use utility_types::Refusal;
 
 pub fn ask_text(
     store: Store<'_, '_>,
-    root: usize,
-    path: &[u32; 64],
-    depth: usize,
+    node: Path<'_>,
     question: TextQuestion,
-) -> Reply
-    ensures { RepliesText (view store.entry) root depth path (text_in question) result }
+) -> Result<Reply, Refusal>
+    ensures { RepliesText (view store.entry) node.entry (text_in question) result }
 {
     match question {
-        TextQuestion::Len(a, b) => {
-            let answer = texts::len(store, root, path, depth, a, b);
-            reply::of_length(answer)
+        TextQuestion::Len(start, end) => {
+            let text = SyntaxText { node, start, end };
+            reply::of_length(text.len(store))
         }
-        TextQuestion::Slice(a, b, from, to) => {
-            let answer = texts::slice(store, root, path, depth, a, b, from, to);
-            reply::of_text(answer)
+        TextQuestion::Slice(start, end, from, to) => {
+            let text = SyntaxText { node, start, end };
+            reply::of_text(text.slice(store, from, to))
         }
-        TextQuestion::Contains(a, b, c) => {
-            let answer = chars::contains(store, root, path, depth, a, b, c);
-            reply::of_truth(answer)
+        TextQuestion::Contains(start, end, character) => {
+            let text = SyntaxText { node, start, end };
+            reply::of_truth(text.contains_char(store, character))
         }
-        TextQuestion::Find(a, b, c) => {
-            let answer = chars::find(store, root, path, depth, a, b, c);
-            reply::of_offset(answer)
+        TextQuestion::Find(start, end, character) => {
+            let text = SyntaxText { node, start, end };
+            reply::of_offset(text.find_char(store, character))
         }
-        TextQuestion::CharAt(a, b, x) => {
-            let answer = chars::char_at(store, root, path, depth, a, b, x);
-            reply::of_character(answer)
+        TextQuestion::CharAt(start, end, offset) => {
+            let text = SyntaxText { node, start, end };
+            reply::of_character(text.char_at(store, offset))
         }
     }
 }
 
+// The path of the other element or text is lent as `other`; the question has its root and its depth.
 pub fn ask_pair(
     store: Store<'_, '_>,
-    root: usize,
-    path: &[u32; 64],
+    node: Path<'_>,
     other: &[u32; 64],
-    depth: usize,
     question: PairQuestion,
-) -> Reply
-    ensures { RepliesPair (view store.entry) root depth path other (pair_in question) result }
+) -> Result<Reply, Refusal>
+    ensures { RepliesPair (view store.entry) node.entry other (pair_in question) result }
 {
     match question {
-        PairQuestion::EqualText(a, b, r, d, a2, b2) => {
-            let answer = equality::equal(store, root, path, depth, a, b, r, other, d, a2, b2);
-            reply::of_truth(answer)
+        PairQuestion::EqualText(start, end, root, depth, other_start, other_end) => {
+            let text = SyntaxText { node, start, end };
+            let beside = SyntaxText {
+                node: Path {
+                    root,
+                    indexes: other,
+                    depth,
+                },
+                start: other_start,
+                end: other_end,
+            };
+            reply::of_truth(text.equal(store, beside))
         }
-        PairQuestion::SameElement(r, d) => {
-            let answer = same::same_element(store, root, path, depth, r, other, d);
-            reply::of_truth(answer)
+        PairQuestion::SameElement(root, depth) => {
+            let beside = Path {
+                root,
+                indexes: other,
+                depth,
+            };
+            reply::of_truth(same::same_element(store, node, beside))
         }
     }
 }

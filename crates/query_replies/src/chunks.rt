@@ -2,6 +2,7 @@
 
 ghost use Rattle.green.specs.View.{view};
 
+use cursor::path::Path;
 use files::out::Output;
 use green::Store;
 use questions::slots::{Slot, Slots};
@@ -10,48 +11,34 @@ use replies::bytes::Chunk;
 use script::call::Call;
 use script::fault::Fault;
 use script::op::Op;
+use syntax_text::text::SyntaxText;
 use syntax_text_chunks::chunks;
+use syntax_text_chunks::chunks::Chunks;
 
-// The next chunk, from a state that keeps no place. The one before it is found by the count first, and then it by the place
-// that was kept. How many were then given.
+// The next chunk, and how many were then given. The state keeps no place at first: the chunk before is found by its count, and leaves the place of this one.
 fn next(out: &mut Output, store: Store<'_, '_>, it: Text) -> usize {
-    let mut given: usize = 0;
-    let mut place = [0u32; 64];
-    let mut kept: usize = 0;
-    let mut outcome: usize = 0;
     let path = it.path;
+    let text = SyntaxText {
+        node: Path {
+            root: it.root,
+            indexes: &path,
+            depth: it.depth,
+        },
+        start: it.start,
+        end: it.end,
+    };
+    let mut place = [0u32; 64];
+    let mut chunks = Chunks {
+        given: it.given.saturating_sub(1),
+        place: &mut place,
+        kept: 0,
+    };
     if 0 < it.given {
-        given = it.given - 1;
-        chunks::next_chunk(
-            store,
-            it.root,
-            &path,
-            it.depth,
-            it.start,
-            it.end,
-            &mut given,
-            &mut place,
-            &mut kept,
-            &mut outcome,
-        );
+        let _ = chunks::next_chunk(store, text, &mut chunks);
     }
-    let chunk = chunks::next_chunk(
-        store,
-        it.root,
-        &path,
-        it.depth,
-        it.start,
-        it.end,
-        &mut given,
-        &mut place,
-        &mut kept,
-        &mut outcome,
-    );
-    out.put_line(Chunk {
-        outcome,
-        bytes: chunk,
-    });
-    given
+    let came = chunks::next_chunk(store, text, &mut chunks);
+    out.put_line(Chunk(came));
+    chunks.given
 }
 
 pub fn answer(

@@ -29,6 +29,7 @@ fn read(
         | Op::TextFind
         | Op::TextCharAt
         | Op::TextEqual => text_calls::read(call, op, slots, path, other),
+        // the others are the calls of a path: `path_calls` asks nothing where one is none of these
         _ => Ok(Some(path_calls::read(call, op, path, other)?)),
     }
 }

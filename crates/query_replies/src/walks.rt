@@ -12,7 +12,6 @@ use replies::line::Walked;
 use replies::show::Shown;
 use script::call::Call;
 use script::fault::Fault;
-use script::op::Op;
 
 // Call 41. What comes has the path that the walk had before.
 fn step(out: &mut Output, store: Store<'_, '_>, it: &mut Walk) {
@@ -45,43 +44,58 @@ fn skip(out: &mut Output, it: &mut Walk) {
     }
 }
 
-// A slot, and how many steps of its walk are asked for: by call 43 in a word, and else one.
 #[derive(Clone, Copy)]
-struct Steps {
-    slot: Slot,
-    count: usize,
+enum Steps {
+    Next,
+    Skip,
+    Many(usize),
 }
 
-fn read(call: &mut Call, op: Op) -> Result<Steps, Fault> {
-    if let Op::WalkMany = op {
-        return Ok(Steps {
-            slot: Slot::read(call)?,
-            count: call.last_word()? as usize,
-        });
+// The walk in a slot, so much further.
+fn go_on(out: &mut Output, store: Store<'_, '_>, slots: &mut Slots, slot: Slot, steps: Steps) {
+    let Some(mut it) = slots.walk(slot) else {
+        out.put_line("no walk");
+        return;
+    };
+    match steps {
+        Steps::Next => step(out, store, &mut it),
+        Steps::Skip => skip(out, &mut it),
+        Steps::Many(count) => many::put(out, store, &mut it, count),
     }
-    Ok(Steps {
-        slot: Slot::read_last(call)?,
-        count: 1,
-    })
+    slots.set_walk(slot, Some(it));
 }
 
-pub fn answer(
+pub fn answer_next(
     call: &mut Call,
-    op: Op,
     out: &mut Output,
     store: Store<'_, '_>,
     slots: &mut Slots,
 ) -> Result<(), Fault> {
-    let Steps { slot, count } = read(call, op)?;
-    let Some(mut it) = slots.walk(slot) else {
-        out.put_line("no walk");
-        return Ok(());
-    };
-    match op {
-        Op::WalkNext => step(out, store, &mut it),
-        Op::WalkSkip => skip(out, &mut it),
-        _ => many::put(out, store, &mut it, count),
-    }
-    slots.set_walk(slot, Some(it));
+    let slot = Slot::read_last(call)?;
+    go_on(out, store, slots, slot, Steps::Next);
+    Ok(())
+}
+
+pub fn answer_skip(
+    call: &mut Call,
+    out: &mut Output,
+    store: Store<'_, '_>,
+    slots: &mut Slots,
+) -> Result<(), Fault> {
+    let slot = Slot::read_last(call)?;
+    go_on(out, store, slots, slot, Steps::Skip);
+    Ok(())
+}
+
+// A slot, and how many steps of its walk.
+pub fn answer_many(
+    call: &mut Call,
+    out: &mut Output,
+    store: Store<'_, '_>,
+    slots: &mut Slots,
+) -> Result<(), Fault> {
+    let slot = Slot::read(call)?;
+    let count = call.last_word()? as usize;
+    go_on(out, store, slots, slot, Steps::Many(count));
     Ok(())
 }

@@ -1,6 +1,7 @@
 -- What keeping a reply does to the slots.
-use Rattle.std.specs.Prelude.{ℕ, ◌≡◌, ◌≤◌, ◌<◌, List, Bool, Some, slice_set}
+use Rattle.std.specs.Prelude.{ℕ, ◌≡◌, ◌≤◌, ◌<◌, List, Bool, Ok, Err, Some, slice_set}
 use Rattle.preorder.specs.declared.state.Ahead.{Ahead}
+use Rattle.utility_types.specs.Numbers.{OrRefusal}
 use Rattle.query.specs.declared.reply.Reply.{Reply}
 use Rattle.query.specs.declared.reply.Reply.TheVariants as reply
 use Rattle.questions.specs.declared.asked.Asked.{Asked}
@@ -34,8 +35,9 @@ WalkSet n a tokens path x old new = (new.texts ≡ old.texts) × ((w : walk.Walk
 abbrev pub TextSet : ℕ → Asked → List ℕ → ℕ → ℕ → Slots → Slots → Type 0
 TextSet n a path from to old new = (new.walks ≡ old.walks) × ((t : text.Text) × ((new.texts ≡ slice_set old.texts n (Some t)) × TextKept a path from to t))
 
--- a walk that begins, of at most 64 indexes, and a text are kept; of another reply nothing is
-abbrev pub Keeps : Keeping → Asked → List ℕ → Reply → Slots → Slots → Type 0
-Keeps (Walk slot tokens) a path (reply.Walk x) old new = (x.depth ≤ 64 → WalkSet slot.number a tokens path x old new) × (64 < x.depth → new ≡ old)
-Keeps (Text slot) a path (reply.Text from to) old new = TextSet slot.number a path from to old new
-Keeps k a path r old new = new ≡ old
+-- a walk that begins, of at most 64 indexes, and a text are kept; of another reply or a refusal nothing is
+abbrev pub Keeps : Keeping → Asked → List ℕ → OrRefusal Reply → Slots → Slots → Type 0
+Keeps k a path (Err w) old new = new ≡ old
+Keeps (Walk slot tokens) a path (Ok (reply.Walk x)) old new = (x.depth ≤ 64 → WalkSet slot.number a tokens path x old new) × (64 < x.depth → new ≡ old)
+Keeps (Text slot) a path (Ok (reply.Text from to)) old new = TextSet slot.number a path from to old new
+Keeps k a path (Ok r) old new = new ≡ old

@@ -8,6 +8,7 @@ use crate::text::Text;
 use crate::walk::Walk;
 use query::question::Question;
 use query::reply::Reply;
+use utility_types::Refusal;
 
 // Where a walk or a text that comes back is kept.
 #[derive(Clone, Copy)]
@@ -41,11 +42,14 @@ impl Asked {
         }
     }
 
-    // Keeps a walk that begins, or a text, in the slot that was emptied when the call was read; another reply leaves it empty.
+    // Keeps a walk that begins, or a text, in the slot that was emptied when the call was read; another reply or a refusal leaves it empty.
     // No walk has more than 64 indexes.
-    pub fn keep(self, slots: &mut Slots, path: &[u32; 64], reply: Reply)
+    pub fn keep(self, slots: &mut Slots, path: &[u32; 64], reply: Result<Reply, Refusal>)
         ensures { Keeps self.keeping self path.now reply slots.old slots.new }
     {
+        let Ok(reply) = reply else {
+            return;
+        };
         match (self.keeping, reply) {
             (Keeping::Walk(slot, tokens), Reply::Walk(ahead)) if ahead.depth <= 64 => {
                 let walk = Walk {

@@ -1,12 +1,12 @@
 // The calls on one store.
 
 ghost use Rattle.std.specs.Prelude.{◌<◌, ◌≤◌, IfOk, IfSome};
-ghost use Rattle.green.specs.Store.{store};
 ghost use Rattle.green.specs.Valid.{Valid};
+ghost use Rattle.green.specs.View.{view_events, SameEventPlaces};
 
 use crate::turns::Turns;
 use files::out::Output;
-use green::Counts;
+use green::store_mut::EventStore;
 use questions::slots::Slots;
 use script::call::Call;
 use script::calls::MOST;
@@ -25,35 +25,17 @@ fn next_store(call: &mut Call, out: &mut Output) -> Result<Store, Fault> {
 fn answer(
     call: &mut Call,
     out: &mut Output,
-    records: &mut [u64],
-    children: &mut [u64],
-    text: &mut [u8],
-    used: &mut Counts,
+    store: &mut EventStore<'_>,
     slots: &mut Slots,
 ) -> Result<(), Fault>
-    requires { Valid (store records.old children.old text.old used.old) }
-    ensures { Valid (store records.new children.new text.new used.new) }
+    requires { Valid (view_events store.old) }
+    ensures valid { Valid (view_events store.new) }
+    ensures same { SameEventPlaces store.old store.new }
 {
-    match call.op {
-        Some(
-            op @ (Op::Run
-            | Op::RunEvents
-            | Op::ReplaceChild
-            | Op::InsertChild
-            | Op::RemoveChild
-            | Op::SpliceChildren
-            | Op::ReplaceWith),
-        ) => edit_replies::answer(call, op, out, records, children, text, used),
-        _ => {
-            let lent = green::Store {
-                records,
-                children,
-                text,
-                used,
-            };
-            query_replies::answer(call, out, lent, slots)
-        }
+    if let Some(answered) = edit_replies::answer(call, out, store) {
+        return answered;
     }
+    query_replies::answer(call, out, store.read(), slots)
 }
 
 // The calls on a store that is empty at first, as its slots are, up to the call that asks for the next one. That store, unless the
@@ -62,14 +44,13 @@ fn answer_all(
     turns: &mut Turns,
     words: &mut [u8; MOST],
     out: &mut Output,
-    records: &mut [u64],
-    children: &mut [u64],
-    text: &mut [u8],
+    store: &mut EventStore<'_>,
 ) -> Result<Option<Store>, Complaint>
+    requires { Valid (view_events store.old) }
     ensures later { IfOk result (λ next. IfSome next (λ _. turns.old.next.byte < turns.new.next.byte)) }
     ensures most { IfOk result (λ next. IfSome next (λ _. turns.new.next.byte ≤ 1000000)) }
+    ensures same { SameEventPlaces store.old store.new }
 {
-    let mut used = [0usize; 8];
     let mut slots = Slots::default();
     while let Some(mut call) = turns.next_call(words)? {
         let place = call.place;
@@ -77,15 +58,13 @@ fn answer_all(
         if let Some(Op::Store) = call.op {
             return next_store(&mut call, out).map(Some).map_err(complain);
         }
-        answer(
-            &mut call, out, records, children, text, &mut used, &mut slots,
-        )
-        .map_err(complain)?;
+        answer(&mut call, out, store, &mut slots).map_err(complain)?;
     }
     Ok(None)
 }
 
-// The same in as many of the places as the script asks for and there are.
+// The same in as many of the places as the script asks for and there are. They are slices here and no struct's: the borrow checker does not follow
+// a part of a slice from one struct into another.
 pub fn on_store(
     turns: &mut Turns,
     words: &mut [u8; MOST],
@@ -101,12 +80,12 @@ pub fn on_store(
     let r = asked.records.min(records.len() / 8);
     let c = asked.children.min(children.len());
     let t = asked.text.min(text.len());
-    answer_all(
-        turns,
-        words,
-        out,
-        &mut records[..8 * r],
-        &mut children[..c],
-        &mut text[..t],
-    )
+    let mut used = [0usize; 8];
+    let mut store = EventStore {
+        records: &mut records[..8 * r],
+        children: &mut children[..c],
+        text: &mut text[..t],
+        used: &mut used,
+    };
+    answer_all(turns, words, out, &mut store)
 }

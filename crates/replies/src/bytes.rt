@@ -1,7 +1,9 @@
 // Bytes in a reply: their count, and two digits for each.
 
+use crate::show::Shown;
 use std::fmt;
 use std::fmt::{Display, Formatter, Write};
+use utility_types::Refusal;
 
 // Two digits for each byte.
 #[derive(Clone, Copy)]
@@ -29,19 +31,16 @@ impl Display for Bytes<'_> {
     }
 }
 
-// A chunk's bytes, or by its outcome why there is none: 1 says the end, any other number is a refusal's.
+// What a step of a text's chunks answers.
 #[derive(Clone, Copy)]
-pub struct Chunk<'a> {
-    pub outcome: usize,
-    pub bytes: &'a [u8],
-}
+pub struct Chunk<'a>(pub Result<Option<&'a [u8]>, Refusal>);
 
 impl Display for Chunk<'_> {
     fn fmt<W: Write>(&self, f: &mut Formatter<W>) -> fmt::Result {
-        match self.outcome {
-            0 => write!(f, "chunk {}", Bytes(self.bytes)),
-            1 => write!(f, "ended"),
-            number => write!(f, "refused {number}"),
+        match self.0 {
+            Ok(Some(bytes)) => write!(f, "chunk {}", Bytes(bytes)),
+            Ok(None) => write!(f, "ended"),
+            Err(why) => write!(f, "{}", Shown(why)),
         }
     }
 }

@@ -73,7 +73,7 @@ impl Display for Walked<'_> {
 #[derive(Clone, Copy)]
 pub struct Replied<'a> {
     pub op: Op,
-    pub reply: Reply,
+    pub reply: Result<Reply, Refusal>,
     pub path: &'a [u32; 64],
     pub other: &'a [u32; 64],
 }
@@ -109,21 +109,21 @@ impl Display for Replied<'_> {
     fn fmt<W: Write>(&self, f: &mut Formatter<W>) -> fmt::Result {
         let path = self.path;
         match self.reply {
-            Reply::None => write!(f, "none"),
-            Reply::Element(it) => write!(f, "{}", Element { it, path }),
-            Reply::Tokens(tokens) => self.fmt_tokens(f, tokens),
-            Reply::Text(_, _) | Reply::Walk(_) => write!(f, "ok"),
-            Reply::Number(number) => self.fmt_number(f, number),
-            Reply::Truth(true) => write!(f, "yes"),
-            Reply::Truth(false) => write!(f, "no"),
-            Reply::Path(depth) => {
+            Ok(Reply::None) => write!(f, "none"),
+            Ok(Reply::Element(it)) => write!(f, "{}", Element { it, path }),
+            Ok(Reply::Tokens(tokens)) => self.fmt_tokens(f, tokens),
+            Ok(Reply::Text(_, _) | Reply::Walk(_)) => write!(f, "ok"),
+            Ok(Reply::Number(number)) => self.fmt_number(f, number),
+            Ok(Reply::Truth(true)) => write!(f, "yes"),
+            Ok(Reply::Truth(false)) => write!(f, "no"),
+            Ok(Reply::Path(depth)) => {
                 let found = Path {
                     indexes: path,
                     depth,
                 };
                 write!(f, "found {found}")
             }
-            Reply::Refused(why) => write!(f, "{}", Shown(why)),
+            Err(why) => write!(f, "{}", Shown(why)),
         }
     }
 }

@@ -6,7 +6,7 @@ use green::element::Summary;
 use sheet::Ended;
 use std::fmt;
 use std::fmt::{Display, Formatter, Write};
-use utility_types::{Refusal, SyntaxKind, refusal_number};
+use utility_types::{Refusal, SyntaxKind};
 
 // A value as a reply shows it.
 #[derive(Clone, Copy)]
@@ -14,7 +14,7 @@ pub struct Shown<T>(pub T);
 
 impl Display for Shown<Refusal> {
     fn fmt<W: Write>(&self, f: &mut Formatter<W>) -> fmt::Result {
-        write!(f, "refused {}", refusal_number(self.0))
+        write!(f, "refused {}", u64::from(self.0))
     }
 }
 

@@ -26,7 +26,7 @@ use Rattle.query.proofs.Alike.{Fixed, same_replies}
 use Rattle.notes_tree.specs.Demand3.{ChunkState, ChunkCall}
 use Rattle.notes_tree.proofs.Carrying.{outcome_same}
 use Rattle.notes_tree.proofs.Keeping.{chunk_same}
-use Rattle.abi.specs.Outcomes.{told, chunk_outcome, reply_told, chunk_told, SameOutput}
+use Rattle.abi.specs.Outcomes.{with_words, chunk_outcome, reply_told, chunk_told, SameOutput}
 use Rattle.abi.proofs.Telling.{same_output}
 use Rattle.cursor_ffi.specs.Exports.{named_token, TokenText}
 use Rattle.notes_tree_ffi.specs.Goes.{chunk_state}
@@ -84,7 +84,7 @@ text_once es b root depth p m m₁ m₂ x₁ x₂ t u = go (named_token es root 
         let c = t.token v z in
         let d = u.token v z in
         let e : c.number ≡ d.number = some-injective _ _ (sym c.recorded ∙ d.recorded) in
-        same_output (ap (λ n. told chunk_outcome (first_of es n ∷ (first_of es n + text_len v) ∷ [])) e) c.written d.written
+        same_output (ap (λ n. with_words chunk_outcome (first_of es n ∷ (first_of es n + text_len v) ∷ [])) e) c.written d.written
 
 -- the chunks of a text
 one_place : (es : List Entry) (root depth : ℕ) (l : List ℕ) (a b given o : ℕ) (text : List ℕ) (x y : Part) → PartLies es root depth l a b given o text x → PartLies es root depth l a b given o text y
@@ -96,7 +96,7 @@ one_place es root depth l a b given zero text x y p q =
     let n : c.number ≡ d.number = some-injective _ _ (sym c.recorded ∙ ap (λ (e : Element). number_at es root e.path) t ∙ d.recorded) in
     let f : x.from ≡ y.from = c.own.starts ∙ ap₂ (λ i (e : Element). first_of es i + (max a e.start - e.start)) n t ∙ sym d.own.starts in
     let g : x.to ≡ y.to = c.own.ends ∙ ap₂ (λ i (e : Element). first_of es i + (min b (end e) - e.start)) n t ∙ sym d.own.ends in
-    ap₂ (λ i j. told chunk_outcome (i ∷ j ∷ [])) f g
+    ap₂ (λ i j. with_words chunk_outcome (i ∷ j ∷ [])) f g
 one_place es root depth l a b given (suc zero) text x y p q = refl
 one_place es root depth l a b given (suc (suc o)) text x y p q = refl
 

@@ -87,32 +87,32 @@ module _ (l l₁ r r₁ m m₁ : List ℕ) (x : ℕ) (h : 100 < x) where
   abbrev Kept : Type 0
   Kept = (l₁ ≡ l) × (r₁ ≡ r) × (m₁ ≡ m)
 
-  reply_kept : (y : Reply) → PathsKept l r l₁ r₁ y → OutputWritten (reply_told y) m m₁ x → Kept
-  reply_kept reply.None k w = over h w.outcome (omega arith)
-  reply_kept (reply.Element e) k w = go e.is_node w.outcome
+  reply_kept : (y : OrRefusal Reply) → PathsKept l r l₁ r₁ y → OutputWritten (reply_told y) m m₁ x → Kept
+  reply_kept (Ok reply.None) k w = over h w.outcome (omega arith)
+  reply_kept (Ok (reply.Element e)) k w = go e.is_node w.outcome
     where
       go : (b : Bool) → x ≡ element_kind b → Kept
       go true e = over h e (omega arith)
       go false e = over h e (omega arith)
-  reply_kept (reply.Tokens found.None) k w = over h w.outcome (omega arith)
-  reply_kept (reply.Tokens (found.Single e)) k w = over h w.outcome (omega arith)
-  reply_kept (reply.Tokens (found.Between e f)) k w = over h w.outcome (omega arith)
-  reply_kept (reply.Text from to) k w = over h w.outcome (omega arith)
-  reply_kept (reply.Number n) k w = over h w.outcome (omega arith)
-  reply_kept (reply.Truth true) k w = over h w.outcome (omega arith)
-  reply_kept (reply.Truth false) k w = over h w.outcome (omega arith)
-  reply_kept (reply.Walk a) k w = over h w.outcome (omega arith)
-  reply_kept (reply.Path d) k w = over h w.outcome (omega arith)
-  reply_kept (reply.Refused y) k w = (k.0, k.1, w.words)
+  reply_kept (Ok (reply.Tokens found.None)) k w = over h w.outcome (omega arith)
+  reply_kept (Ok (reply.Tokens (found.Single e))) k w = over h w.outcome (omega arith)
+  reply_kept (Ok (reply.Tokens (found.Between e f))) k w = over h w.outcome (omega arith)
+  reply_kept (Ok (reply.Text from to)) k w = over h w.outcome (omega arith)
+  reply_kept (Ok (reply.Number n)) k w = over h w.outcome (omega arith)
+  reply_kept (Ok (reply.Truth true)) k w = over h w.outcome (omega arith)
+  reply_kept (Ok (reply.Truth false)) k w = over h w.outcome (omega arith)
+  reply_kept (Ok (reply.Walk a)) k w = over h w.outcome (omega arith)
+  reply_kept (Ok (reply.Path d)) k w = over h w.outcome (omega arith)
+  reply_kept (Err y) k w = (k.0, k.1, w.words)
 
   answer_kept : (y : OrRefusal (Optional SyntaxElement)) → PathKept l l₁ y → r₁ ≡ r → OutputWritten (answer_told y) m m₁ x → Kept
-  answer_kept (Ok (Some e)) k q w = reply_kept (reply.Element e) (k, q) w
-  answer_kept (Ok None) k q w = reply_kept reply.None (k, q) w
-  answer_kept (Err y) k q w = reply_kept (reply.Refused y) (k, q) w
+  answer_kept (Ok (Some e)) k q w = reply_kept (Ok (reply.Element e)) (k, q) w
+  answer_kept (Ok None) k q w = reply_kept (Ok reply.None) (k, q) w
+  answer_kept (Err y) k q w = reply_kept (Err y) (k, q) w
 
   tokens_kept : (y : OrRefusal TokenAtOffset) → KeptTokens l l₁ r r₁ y → OutputWritten (tokens_told y) m m₁ x → Kept
-  tokens_kept (Ok t) k w = reply_kept (reply.Tokens t) k w
-  tokens_kept (Err y) k w = reply_kept (reply.Refused y) k w
+  tokens_kept (Ok t) k w = reply_kept (Ok (reply.Tokens t)) k w
+  tokens_kept (Err y) k w = reply_kept (Err y) k w
 
 query_kept : (s : Store) (root depth : ℕ) (p p₁ r r₁ : List ℕ) (o : Option Question) (m m₁ : List ℕ) (x : ℕ) → 100 < x → QueryExported s root depth (both p p₁) (both r r₁) o (both m m₁) x
     → (p₁ ≡ p) × (r₁ ≡ r) × (m₁ ≡ m)

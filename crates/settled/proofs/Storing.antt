@@ -15,7 +15,7 @@ use Rattle.green.specs.Answers.{RecordFields, Place, summarized, placed}
 use Rattle.green_new.specs.Done.{Done}
 use Rattle.sheet_run.specs.RunDone.{end_of, RunDone}
 use Rattle.notes_tree.specs.History.{Edit}
-use Rattle.abi.specs.Outcomes.{Output, told, number_outcome, element_kind, ended_told, made_told, summary_told, child_told, SameOutput}
+use Rattle.abi.specs.Outcomes.{Output, with_words, number_outcome, element_kind, ended_told, made_told, summary_told, child_told, SameOutput}
 use Rattle.abi.proofs.Telling.{same_output}
 use Rattle.notes_tree_ffi.specs.Exports.{RunExported, EditExported, ElementExported, ChildExported}
 use Rattle.std.specs.Prelude.{Ok, Err}
@@ -72,32 +72,32 @@ run_store s s₁ s₂ d₁ d₂ = store_same s s₁ s₂ d₁.valid d₂.valid d
 
 -- what is told is a function of document 01's answer
 abbrev told_number : Result ℕ → Output
-told_number (ok n) = told number_outcome (n ∷ [])
-told_number (refused n) = told (100 + n) []
+told_number (ok n) = with_words number_outcome (n ∷ [])
+told_number (refused n) = with_words (100 + n) []
 
 made_told_lem : (a : OrRefusal ℕ) → made_told a ≡ told_number (made_number a)
 made_told_lem (Ok n) = refl
 made_told_lem (Err x) = refl
 
 abbrev told_end : End → Output
-told_end (root n) = told number_outcome (n ∷ [])
-told_end (refused_at n i) = told (100 + n) (i ∷ [])
+told_end (root n) = with_words number_outcome (n ∷ [])
+told_end (refused_at n i) = with_words (100 + n) (i ∷ [])
 
 ended_told_lem : (a : Ended) → ended_told a ≡ told_end (end_of a)
 ended_told_lem (Ok n) = refl
 ended_told_lem (Err (x, i)) = refl
 
 abbrev told_fields : Result RecordFields → Output
-told_fields (ok f) = told (element_kind f.is_node) (f.kind ∷ f.len ∷ f.size ∷ f.height ∷ f.children ∷ [])
-told_fields (refused n) = told (100 + n) []
+told_fields (ok f) = with_words (element_kind f.is_node) (f.kind ∷ f.len ∷ f.size ∷ f.height ∷ f.children ∷ [])
+told_fields (refused n) = with_words (100 + n) []
 
 summary_told_lem : (a : OrRefusal Summary) → summary_told a ≡ told_fields (summarized a)
 summary_told_lem (Ok s) = refl
 summary_told_lem (Err x) = refl
 
 abbrev told_place : Result Place → Output
-told_place (ok p) = told number_outcome (p.number ∷ p.offset ∷ [])
-told_place (refused n) = told (100 + n) []
+told_place (ok p) = with_words number_outcome (p.number ∷ p.offset ∷ [])
+told_place (refused n) = with_words (100 + n) []
 
 child_told_lem : (a : OrRefusal Child) → child_told a ≡ told_place (placed a)
 child_told_lem (Ok c) = refl

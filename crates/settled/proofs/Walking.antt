@@ -16,7 +16,7 @@ use Rattle.preorder_many.specs.declared.state.Stop.{Stop}
 use Rattle.preorder_many.specs.declared.state.Stop.TheVariants as stop
 use Rattle.notes_tree.specs.Demand3.{Returned, WalkState, WalkAnswer, WalkCall, WalkDone, Why, why_no_more, skip_answer, skipped_to}
 use Rattle.notes_tree.proofs.Carrying.{walk_same}
-use Rattle.abi.specs.Outcomes.{Output, told, done_outcome, full_outcome, none_outcome, enter_outcome, leave_outcome, bit, moved_told, given_told, event_told, SameOutput}
+use Rattle.abi.specs.Outcomes.{Output, with_words, done_outcome, full_outcome, none_outcome, enter_outcome, leave_outcome, bit, moved_told, given_told, event_told, SameOutput}
 use Rattle.abi.specs.WalkWords.{coming_word, moved_on, begun_in, skipped_in, walk_root, walk_tokens, walk_start, walk_depth, walk_coming}
 use Rattle.notes_tree_ffi.specs.Goes.{walk_state}
 use Rattle.notes_tree_ffi.specs.Exports.{WalkBegins, WalkSkips, WalkGives, WalkSteps}
@@ -105,9 +105,9 @@ many_of (WalkAnswer.skip r) = record { count = 0; why = Why.full; words = [] }
 many_of (WalkAnswer.many k y m) = record { count = k; why = y; words = m }
 
 abbrev told_why : Why → ℕ → Output
-told_why Why.full n = told full_outcome (n ∷ [])
-told_why Why.over n = told none_outcome (n ∷ [])
-told_why (Why.refusal r) n = told (100 + r) []
+told_why Why.full n = with_words full_outcome (n ∷ [])
+told_why Why.over n = with_words none_outcome (n ∷ [])
+told_why (Why.refusal r) n = with_words (100 + r) []
 
 given_told_lem : (x : Stop) (n : ℕ) → given_told x n ≡ told_why (why_no_more x) n
 given_told_lem stop.Full n = refl
@@ -135,10 +135,10 @@ module _ (s : Store) (w p : List ℕ) where
       )
 
 abbrev told_event : ℕ → Result WalkEvent → Output
-told_event d (ok (preorder.WalkEvent.enter s)) = told enter_outcome (s.start ∷ s.end ∷ d ∷ s.kind ∷ bit s.is_node ∷ [])
-told_event d (ok (preorder.WalkEvent.leave s)) = told leave_outcome (s.start ∷ s.end ∷ d ∷ s.kind ∷ bit s.is_node ∷ [])
-told_event d (ok preorder.WalkEvent.ended) = told none_outcome []
-told_event d (refused n) = told (100 + n) []
+told_event d (ok (preorder.WalkEvent.enter s)) = with_words enter_outcome (s.start ∷ s.end ∷ d ∷ s.kind ∷ bit s.is_node ∷ [])
+told_event d (ok (preorder.WalkEvent.leave s)) = with_words leave_outcome (s.start ∷ s.end ∷ d ∷ s.kind ∷ bit s.is_node ∷ [])
+told_event d (ok preorder.WalkEvent.ended) = with_words none_outcome []
+told_event d (refused n) = with_words (100 + n) []
 
 event_told_lem : (d : ℕ) (l : List ℕ) (a : OrRefusal (Optional Event)) → EventNamed d a → event_told a ≡ told_event d (answer_as l a)
 event_told_lem d l (Ok (Some (Enter e))) h = rw h refl

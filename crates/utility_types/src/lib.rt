@@ -1,5 +1,5 @@
 // rowan's utility_types.rs, and the types of the answers that every crate above shares.
-// `number` has numbers of other widths. specs/ says of each what document 01 means by it.
+// `number` has a number from its bytes. specs/ says of each what document 01 means by it.
 
 #![tactic(auto)]
 
@@ -73,21 +73,23 @@ pub enum Refusal {
 }
 
 // Document 01's number of a refusal.
-pub fn refusal_number(r: Refusal) -> u64
-    ensures { result ≡ refusal_number r }
-{
-    match r {
-        Refusal::Malformed => 1,
-        Refusal::BadEvent => 2,
-        Refusal::BadText => 3,
-        Refusal::NoSuchElement => 4,
-        Refusal::OutOfRange => 5,
-        Refusal::OtherKind => 6,
-        Refusal::NothingOpen => 11,
-        Refusal::UnfitCheckpoint => 12,
-        Refusal::Unfinished => 13,
-        Refusal::TooLarge => 14,
-        Refusal::NoRoom => 15,
-        Refusal::SkipBeforeFirst => 16,
+impl From<Refusal> for u64 {
+    ghost from_gives = { λ r n. n ≡ refusal_number r };
+
+    fn from(r: Refusal) -> u64 {
+        match r {
+            Refusal::Malformed => 1,
+            Refusal::BadEvent => 2,
+            Refusal::BadText => 3,
+            Refusal::NoSuchElement => 4,
+            Refusal::OutOfRange => 5,
+            Refusal::OtherKind => 6,
+            Refusal::NothingOpen => 11,
+            Refusal::UnfitCheckpoint => 12,
+            Refusal::Unfinished => 13,
+            Refusal::TooLarge => 14,
+            Refusal::NoRoom => 15,
+            Refusal::SkipBeforeFirst => 16,
+        }
     }
 }

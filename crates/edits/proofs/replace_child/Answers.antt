@@ -1,19 +1,10 @@
 -- `replace_child` meets its contract.
-use native.Mathlib.Omega.{arith}
-use mathlib.Core.Path.{sym}
-use lib.Seq.{length-take-le}
-use Rattle.green.proofs.Known.{known, number_bound}
+use Rattle.utility_types.proofs.Passing.{passed_on}
 use Rattle.edits.proofs.Edits.{done_as, replace_splice, replace_refused}
 use Rattle.edits.proofs.replace_child.Goals as goal
 
-pub returns-then-used-m : goal.returns-then-used-m
-returns-then-used-m c = replace_refused c.requires _ _ _ c.if-used-m.true
+pub returns-in_err-one-clause-done : goal.returns-in_err-one-clause-done
+returns-in_err-one-clause-done c = rw (passed_on _ c.from_residual.ensures.1) (replace_refused c.requires _ _ _ (rw c.read-read.ensures at c.in_err-one.ensures))
 
-pub overflow_cast-one : goal.overflow_cast-one
-overflow_cast-one c = omega (arith, number_bound _ _ (known _ c.requires _ c.if-used-m.false))
-
-pub slice_bounds-splice_children-end : goal.slice_bounds-splice_children-end
-slice_bounds-splice_children-end c = sym (length-take-le _ _ c.replaced-span.ensures.one)
-
-pub returns : goal.returns
-returns c = done_as (replace_splice _ _ _ _ _ (known _ c.requires _ c.if-used-m.false).within c.replaced-span.ensures) c.splice_children.ensures
+pub returns-clause-done : goal.returns-clause-done
+returns-clause-done c = done_as (replace_splice _ _ _ _ _ (rw c.read-read.ensures at c.in_ok-one.ensures) (rw c.read-read.ensures at c.replaced-span.ensures)) c.splice_children.ensures.done

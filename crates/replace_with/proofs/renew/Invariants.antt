@@ -1,7 +1,9 @@
 use lib.ListN.{take}
-use Rattle.green.specs.Store.{store}
+use Rattle.green.specs.View.{view_edits, SameEditPlaces}
+use Rattle.replace_with.specs.Ancestors.{numbers}
 use Rattle.replace_with.proofs.Renewing.{Renewing}
 use Rattle.replace_with.proofs.renew.Given as goal
 
 abbrev pub invariant-loop-d : goal.invariant-loop-d
-invariant-loop-d l = Renewing (store l.initial.records l.initial.children l.text l.initial.used) (store l.records l.children l.text l.used) (take l.depth l.path) l.numbers l.m l.at l.d
+invariant-loop-d l =
+    Renewing (view_edits l.initial.store) (view_edits l.store) (take l.path.depth l.path.indexes.now) (numbers l.ancestors) l.m l.at l.d × SameEditPlaces l.initial.store l.store

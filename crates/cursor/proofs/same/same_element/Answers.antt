@@ -7,11 +7,11 @@ use Rattle.cursor.proofs.same.same_element.Goals as goal
 pub returns-in_err-one : goal.returns-in_err-one
 returns-in_err-one c = rw (passed_on _ c.from_residual.ensures.1) (first_absent c.in_err-one.ensures refl _ _ _)
 
-pub returns-in_err-other : goal.returns-in_err-other
-returns-in_err-other c = rw (passed_on _ c.from_residual-in_err-other.ensures.1) (second_absent c.in_ok-one.ensures c.in_err-other.ensures refl refl)
+pub returns-in_err-two : goal.returns-in_err-two
+returns-in_err-two c = rw (passed_on _ c.from_residual-in_err-two.ensures.1) (second_absent c.in_ok-one.ensures c.in_err-two.ensures refl refl)
 
 pub returns-then-a-b : goal.returns-then-a-b
-returns-then-a-b c = same_number c.in_ok-one.ensures c.in_ok-other.ensures refl refl c.if-a-b.true
+returns-then-a-b c = same_number c.in_ok-one.ensures c.in_ok-two.ensures refl refl c.if-a-b.true
 
 pub returns-else-a-b : goal.returns-else-a-b
-returns-else-a-b c = other_number c.in_ok-one.ensures c.in_ok-other.ensures refl refl c.if-a-b.false
+returns-else-a-b c = other_number c.in_ok-one.ensures c.in_ok-two.ensures refl refl c.if-a-b.false

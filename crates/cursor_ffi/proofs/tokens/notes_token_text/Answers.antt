@@ -24,4 +24,4 @@ pub overflow_add-to : goal.overflow_add-to
 overflow_add-to c = omega (arith, text_within (located_facts c.locate-found.ensures c.in-Ok.is).placed (leaf (located_facts c.locate-found.ensures c.in-Ok.is).placed c.node_or_token.ensures c.in-Token.is) c.first_of-from.ensures c.count_of.ensures, c.well_formed.1.1.0)
 
 pub returns : goal.returns
-returns c = token_there (located_named c.locate-found.ensures c.in-Ok.is) (leaf (located_facts c.locate-found.ensures c.in-Ok.is).placed c.node_or_token.ensures c.in-Token.is) (text_lies (located_facts c.locate-found.ensures c.in-Ok.is).placed (leaf (located_facts c.locate-found.ensures c.in-Ok.is).placed c.node_or_token.ensures c.in-Token.is) c.first_of-from.ensures c.count_of.ensures (located_facts c.locate-found.ensures c.in-Ok.is).number c.put_chunk.ensures)
+returns c = token_there (located_named c.locate-found.ensures c.in-Ok.is) (leaf (located_facts c.locate-found.ensures c.in-Ok.is).placed c.node_or_token.ensures c.in-Token.is) (text_lies (located_facts c.locate-found.ensures c.in-Ok.is).placed (leaf (located_facts c.locate-found.ensures c.in-Ok.is).placed c.node_or_token.ensures c.in-Token.is) c.first_of-from.ensures c.count_of.ensures (located_facts c.locate-found.ensures c.in-Ok.is).number c.put_part.ensures)

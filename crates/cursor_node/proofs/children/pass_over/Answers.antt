@@ -3,7 +3,7 @@ use Prim.Native.Nat.{◌+◌, ◌-◌}
 use native.Mathlib.Omega.{arith}
 use mathlib.Core.Path.{◌≡◌, sym, ap, ◌∙◌}
 use Rattle.utility_types.specs.Numbers.{is_node_of}
-use Rattle.cursor_node.proofs.Passing.{none_passed, all_offered, only_tokens, pass_token, stop_node, stop_none}
+use Rattle.cursor_node.proofs.Passing.{all_offered, only_tokens, pass_token, stop_node, stop_none}
 use Rattle.cursor_node.proofs.children.pass_over.Goals as goal
 
 pub returns-then-with_tokens : goal.returns-then-with_tokens
@@ -11,18 +11,6 @@ returns-then-with_tokens c = (all_offered c.if-with_tokens.true, omega arith)
 
 pub returns-then-height_of-eq1 : goal.returns-then-height_of-eq1
 returns-then-height_of-eq1 c = (only_tokens c.if-with_tokens.false c.height_of.ensures c.if-height_of-eq1.true, omega arith)
-
-pub loop-before-init : goal.loop-before-init
-loop-before-init c = none_passed
-
-pub nearest_index-i-requires : goal.nearest_index-i-requires
-nearest_index-i-requires c = omega (arith, c.loop-before-test.true, c.loop-before.invariant.within, c.requires.1, c.child_count-count.ensures.0)
-
-pub child-child-requires : goal.child-child-requires
-child-child-requires c = record { inner = c.requires.0; k_bound = omega (arith, c.nearest_index-i.ensures.1, c.child_count-count.ensures.0) }
-
-pub node_or_token-requires : goal.node_or_token-requires
-node_or_token-requires c = c.child-child.ensures.placed
 
 pub returns-in_default : goal.returns-in_default
 returns-in_default c =

@@ -9,17 +9,11 @@ use Rattle.cursor_range.proofs.cover.covering_element.Goals as goal
 pub returns-in_err-at : goal.returns-in_err-at
 returns-in_err-at c = rw (passed_on _ c.from_residual.ensures.1) ((no_node c.in_err-at.ensures _ _ refl).1)
 
-pub end_of-node_end-requires : goal.end_of-node_end-requires
-end_of-node_end-requires c = (node_facts c.in_ok-at.ensures refl).inner.placed
-
 pub returns-then-is_range_outside : goal.returns-then-is_range_outside
 returns-then-is_range_outside c = out_of_range (outside_asked c.in_ok-at.ensures _ _ refl c.end_of-node_end.ensures.0 (sym c.is_range_outside.ensures ∙ c.if-is_range_outside.true))
 
 pub descend-covering-requires : goal.descend-covering-requires
 descend-covering-requires c = record { placed = ((node_facts c.in_ok-at.ensures refl).inner.placed, search rules); start_le_start = inside_both c.end_of-node_end.ensures.0 _ _ _ (sym c.is_range_outside.ensures ∙ c.if-is_range_outside.false) }
-
-pub syntax_element-requires : goal.syntax_element-requires
-syntax_element-requires c = c.descend-covering.ensures.placed
 
 pub returns : goal.returns
 returns c = covering_asked c.in_ok-at.ensures _ _ refl c.end_of-node_end.ensures.0 (sym c.is_range_outside.ensures ∙ c.if-is_range_outside.false) c.descend-covering.ensures c.syntax_element.ensures

@@ -4,7 +4,6 @@ use mathlib.Core.Path.{refl, sym, ◌∙◌}
 use Rattle.cursor.proofs.Telling.{told_as}
 use Rattle.cursor.proofs.AskingNodes.{node_facts}
 use Rattle.cursor_range.proofs.Asked.{inside_start, out_of_range, no_node, before_asked, past_asked, child_asked}
-use borrow.Author.Rules.{rules}
 use Rattle.cursor_range.proofs.range.child_or_token_at_range.Goals as goal
 
 pub returns-in_err-at : goal.returns-in_err-at
@@ -13,17 +12,11 @@ returns-in_err-at c = rw (passed_on _ c.from_residual.ensures.1) ((no_node c.in_
 pub returns-then-is_range_before : goal.returns-then-is_range_before
 returns-then-is_range_before c = out_of_range (before_asked c.in_ok-at.ensures _ _ refl (sym c.is_range_before.ensures ∙ c.if-is_range_before.true))
 
-pub end_of-requires : goal.end_of-requires
-end_of-requires c = (node_facts c.in_ok-at.ensures refl).inner.placed
-
 pub returns-then-end_of-start : goal.returns-then-end_of-start
 returns-then-end_of-start c = past_asked c.in_ok-at.ensures _ _ refl (sym c.is_range_before.ensures ∙ c.if-is_range_before.false) c.end_of.ensures.0 c.if-end_of-start.true
 
 pub child_at_range-k-requires : goal.child_at_range-k-requires
 child_at_range-k-requires c = record { inner = (node_facts c.in_ok-at.ensures refl).inner; start_le_start = inside_start c.end_of.ensures.0 _ _ _ (sym c.is_range_before.ensures ∙ c.if-is_range_before.false) c.if-end_of-start.false }
-
-pub child_answer-requires : goal.child_answer-requires
-child_answer-requires c = ((node_facts c.in_ok-at.ensures refl).inner, search rules)
 
 pub returns : goal.returns
 returns c = told_as c.child_answer.ensures (child_asked c.in_ok-at.ensures _ _ refl (sym c.is_range_before.ensures ∙ c.if-is_range_before.false) c.child_at_range-k.ensures)

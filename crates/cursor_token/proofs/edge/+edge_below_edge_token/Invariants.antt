@@ -6,7 +6,7 @@ use Rattle.green.specs.View.{view}
 use Rattle.cursor_token.proofs.edge.+edge_below_edge_token.Given as goal
 
 abbrev pub decreases-edge_below : goal.decreases-edge_below
-decreases-edge_below l = 2 * height (tree_at (entries (view l.store)) l.at.number)
+decreases-edge_below l = 2 * height (tree_at (entries (view l.store.now)) l.at.number)
 
 abbrev pub decreases-edge_token : goal.decreases-edge_token
-decreases-edge_token l = 2 * height (tree_at (entries (view l.store)) l.number) + 1
+decreases-edge_token l = 2 * height (tree_at (entries (view l.store.now)) l.number) + 1

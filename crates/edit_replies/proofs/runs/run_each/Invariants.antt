@@ -1,9 +1,9 @@
 use Rattle.std.proofs.Common.{[]}
-use Rattle.green.specs.Store.{store}
-use Rattle.builder.specs.Places.{places}
+use Rattle.green.specs.View.{view_events, SameEventPlaces}
 use Rattle.sheet_run.proofs.Going.{Going}
 use Rattle.edit_replies.proofs.runs.run_each.Given as goal
 
 abbrev pub invariant-loop-i : goal.invariant-loop-i
 invariant-loop-i l =
-    Going (store l.initial.records l.initial.children l.initial.text l.initial.used) [] l.sheet l.source l.n (store l.records l.children l.text l.used) (places l.parents l.waiting l.registers l.counts) [] l.at l.i
+    Going (view_events l.initial.store) [] l.sheet l.source l.n (view_events l.store) l.builder [] l.at l.i
+    × SameEventPlaces l.initial.store l.store

@@ -1,15 +1,10 @@
 -- `decide_insert` meets its contract.
-use native.Mathlib.Omega.{arith}
-use mathlib.Core.Path.{refl}
-use Rattle.green.proofs.Known.{known, number_bound}
-use Rattle.edits.proofs.Edits.{judged_as, insert_splice, insert_judged}
+use Rattle.utility_types.proofs.Passing.{passed_on}
+use Rattle.edits.proofs.Edits.{judged_as, insert_splice, inserted_children, insert_judged}
 use Rattle.edits.proofs.decide.decide_insert.Goals as goal
 
-pub returns-then-store-m : goal.returns-then-store-m
-returns-then-store-m c = insert_judged c.args.store.valid _ c.args.i _ c.if-store-m.true
-
-pub overflow_cast-one : goal.overflow_cast-one
-overflow_cast-one c = omega (arith, number_bound _ _ (known _ c.args.store.valid _ c.if-store-m.false))
+pub returns-in_err-one : goal.returns-in_err-one
+returns-in_err-one c = rw (passed_on _ c.from_residual.ensures.1) (insert_judged c.args.store.valid _ c.args.i _ c.in_err-one.ensures)
 
 pub returns : goal.returns
-returns c = judged_as _ _ _ _ _ _ _ (λ l. insert_splice l _ _ _ _) (λ _. refl) _ c.decide_splice.ensures
+returns c = judged_as _ _ _ _ _ _ _ (λ l. insert_splice l _ _ _ _ c.in_ok-one.ensures) (λ _. inserted_children c.in_ok-one.ensures _ _) _ c.decide_splice.ensures

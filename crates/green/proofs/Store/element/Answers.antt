@@ -7,9 +7,6 @@ use Rattle.green.proofs.Store.element.Goals as goal
 pub returns-then-self-n : goal.returns-then-self-n
 returns-then-self-n c = no_element _ c.args.self.valid c.args.n c.if-self-n.true
 
-pub is_node-requires : goal.is_node-requires
-is_node-requires c = known _ c.args.self.valid c.args.n c.if-self-n.false
-
 pub returns-then-is_node : goal.returns-then-is_node
 returns-then-is_node c = an_element _ c.args.n (known _ c.args.self.valid c.args.n c.if-self-n.false) _ (sym c.is_node.ensures ∙ c.if-is_node.true)
 

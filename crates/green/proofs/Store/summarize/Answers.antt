@@ -6,27 +6,6 @@ use Rattle.green.proofs.Store.summarize.Goals as goal
 pub returns-then-self-n : goal.returns-then-self-n
 returns-then-self-n c = no_summary _ c.args.self.valid _ c.if-self-n.true
 
-pub is_node-is_node-requires : goal.is_node-is_node-requires
-is_node-is_node-requires c = known _ c.args.self.valid _ c.if-self-n.false
-
-pub count_of-count-requires : goal.count_of-count-requires
-count_of-count-requires c = known _ c.args.self.valid _ c.if-self-n.false
-
-pub kind_of-requires : goal.kind_of-requires
-kind_of-requires c = known _ c.args.self.valid _ c.if-self-n.false
-
-pub text_len-requires : goal.text_len-requires
-text_len-requires c = known _ c.args.self.valid _ c.if-self-n.false
-
-pub size_of-requires : goal.size_of-requires
-size_of-requires c = known _ c.args.self.valid _ c.if-self-n.false
-
-pub height_of-requires : goal.height_of-requires
-height_of-requires c = known _ c.args.self.valid _ c.if-self-n.false
-
-pub hash_of-requires : goal.hash_of-requires
-hash_of-requires c = known _ c.args.self.valid _ c.if-self-n.false
-
 pub returns-then-is_node : goal.returns-then-is_node
 returns-then-is_node c =
     let k = known _ c.args.self.valid _ c.if-self-n.false in

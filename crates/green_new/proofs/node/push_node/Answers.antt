@@ -9,11 +9,11 @@ put_children-requires c = places_fit c.requires
 pub put_record-requires : goal.put_record-requires
 put_record-requires c = node_records c.requires
 
-pub overflow_add-used : goal.overflow_add-used
-overflow_add-used c = omega (arith, node_counts c.requires)
+pub overflow_add-store : goal.overflow_add-store
+overflow_add-store c = omega (arith, node_counts c.requires)
 
-pub overflow_add-used-2 : goal.overflow_add-used-2
-overflow_add-used-2 c = omega (arith, node_counts c.requires)
+pub overflow_add-store-2 : goal.overflow_add-store-2
+overflow_add-store-2 c = omega (arith, node_counts c.requires)
 
-pub returns : goal.returns
-returns c = node_pushed c.requires _ _ c.put_record.ensures c.put_children.ensures.children_after (omega arith)
+pub returns-clause-pushes : goal.returns-clause-pushes
+returns-clause-pushes c = node_pushed c.requires _ _ c.put_record.ensures c.put_children.ensures.children_after (omega arith)

@@ -6,17 +6,17 @@ use Rattle.green_new.proofs.Tokens.{token_records, token_text_lem, token_counts,
 use borrow.Author.Rules.{rules}
 use Rattle.green_new.proofs.token.push_token.Goals as goal
 
-pub put_record-requires : goal.put_record-requires
-put_record-requires c = token_records c.requires
-
-pub overflow_add-used : goal.overflow_add-used
-overflow_add-used c = omega (arith, token_counts c.requires)
-
 pub overflow_add-end : goal.overflow_add-end
 overflow_add-end c = omega (arith, token_counts c.requires)
 
-pub returns : goal.returns
-returns c = token_pushed c.requires _ _ c.put_record.ensures (put_mid-paste _ _ _ _ _ _ c.copy_from_slice.ensures.after (omega arith) refl) (omega arith)
-
 pub slice_bounds-copy_from_slice-end : goal.slice_bounds-copy_from_slice-end
 slice_bounds-copy_from_slice-end c = search (rules, token_text_lem c.requires)
+
+pub put_record-requires : goal.put_record-requires
+put_record-requires c = token_records c.requires
+
+pub overflow_add-store : goal.overflow_add-store
+overflow_add-store c = omega (arith, token_counts c.requires)
+
+pub returns-clause-pushes : goal.returns-clause-pushes
+returns-clause-pushes c = token_pushed c.requires _ _ c.put_record.ensures (put_mid-paste _ _ _ _ _ _ c.copy_from_slice.ensures.after (omega arith) refl) (omega arith)

@@ -6,6 +6,7 @@ use Rattle.notes_tree_ffi.specs.Exports.{edits}
 use Rattle.notes_tree_ffi.proofs.Going.{reached_valid}
 use Rattle.notes_tree_ffi.proofs.Exporting.{edit_told, no_edit}
 use Rattle.notes_tree_ffi.proofs.writes.notes_edit.Goals as goal
+use Rattle.notes_tree_ffi.proofs.writes.notes_edit.Goals.{in-0, in-1, in-2, in-3, in-4}
 
 pub replace_child-made-requires : goal.replace_child-made-requires
 replace_child-made-requires c = reached_valid c.requires
@@ -22,20 +23,15 @@ splice_children-made-requires c = reached_valid c.requires
 pub replace_with-made-requires : goal.replace_with-made-requires
 replace_with-made-requires c = reached_valid c.requires
 
-pub returns-in-0 : goal.returns-in-0
-returns-in-0 c = edit_told (Edit.replace_child _ _ _) (rw c.in-0.is refl) c.replace_child-made.ensures c.put_made.ensures
+pub returns-clause-exported : goal.returns-clause-exported
+returns-clause-exported c =
+    elim c.match-code.branch [
+      | in-0 w ↦ edit_told (Edit.replace_child _ _ _) (rw w.in-0.is refl) (rw (← w.store-is, ← w.made-is) at w.replace_child-made.ensures.done) c.put_made.ensures
+      | in-1 w ↦ edit_told (Edit.insert_child _ _ _) (rw w.in-1.is refl) (rw (← w.store-is, ← w.made-is) at w.insert_child-made.ensures.done) c.put_made.ensures
+      | in-2 w ↦ edit_told (Edit.remove_child _ _) (rw w.in-2.is refl) (rw (← w.store-is, ← w.made-is) at w.remove_child-made.ensures.done) c.put_made.ensures
+      | in-3 w ↦ edit_told (Edit.splice_children _ _ _ _) (rw w.in-3.is refl) (rw (← w.store-is, ← w.made-is) at w.splice_children-made.ensures.done) c.put_made.ensures
+      | in-4 w ↦ edit_told (Edit.replace_with _ _ _ _) (rw w.in-4.is refl) (rw (← w.store-is, ← w.made-is) at w.replace_with-made.ensures.done) c.put_made.ensures
+    ]
 
-pub returns-in-1 : goal.returns-in-1
-returns-in-1 c = edit_told (Edit.insert_child _ _ _) (rw c.in-1.is refl) c.insert_child-made.ensures c.put_made-in-1.ensures
-
-pub returns-in-2 : goal.returns-in-2
-returns-in-2 c = edit_told (Edit.remove_child _ _) (rw c.in-2.is refl) c.remove_child-made.ensures c.put_made-in-2.ensures
-
-pub returns-in-3 : goal.returns-in-3
-returns-in-3 c = edit_told (Edit.splice_children _ _ _ _) (rw c.in-3.is refl) c.splice_children-made.ensures c.put_made-in-3.ensures
-
-pub returns-in-4 : goal.returns-in-4
-returns-in-4 c = edit_told (Edit.replace_with _ _ _ _) (rw c.in-4.is refl) c.replace_with-made.ensures c.put_made-in-4.ensures
-
-pub returns-in_default : goal.returns-in_default
-returns-in_default c = no_edit (past_end (edits c.args.number c.args.from c.args.to c.args.news.now c.args.path.now) _ (missed 5 _ c.in_default.in_default-own.rest)) (wordless refl)
+pub returns-in_default-clause-exported : goal.returns-in_default-clause-exported
+returns-in_default-clause-exported c = no_edit (past_end (edits c.args.number c.args.from c.args.to c.args.news.now c.args.path.now) _ (missed 5 _ c.in_default.in_default-own.rest)) (wordless refl)

@@ -1,8 +1,7 @@
 -- `next_many` meets its contract.
 use mathlib.Core.Path.{sym, ◌∙◌}
-use borrow.Author.Tests.{not-true, not-false}
+use borrow.Author.Tests.{not-true}
 use Rattle.preorder_many.proofs.Run.{none_over, none_there}
-use borrow.Author.Rules.{rules}
 use Rattle.preorder_many.proofs.walk.next_many.Goals as goal
 
 pub returns-then-is_over : goal.returns-then-is_over
@@ -10,6 +9,3 @@ returns-then-is_over c = none_over _ _ _ _ _ _ _ c.requires (sym c.is_over.ensur
 
 pub returns-then-not-go_down : goal.returns-then-not-go_down
 returns-then-not-go_down c = none_there c.args.start c.args.coming c.args.events.now c.requires (sym c.is_over.ensures ∙ c.if-is_over.false) (c.go_down.ensures.coming (not-true _ c.if-not-go_down.true-raw))
-
-pub run-requires : goal.run-requires
-run-requires c = (c.go_down.ensures.ready (not-false _ c.if-not-go_down.false-raw), record { path = search rules; numbers = search rules; starts = search rules })

@@ -4,9 +4,6 @@ use mathlib.Core.Path.{refl, sym, ◌∙◌}
 use Rattle.syntax_text.proofs.Finding.{found_here, not_here, found_nowhere}
 use Rattle.syntax_text.proofs.chars.index_of.Goals as goal
 
-pub loop-i-init : goal.loop-i-init
-loop-i-init c = (omega arith, refl)
-
 pub returns-then-byte-character : goal.returns-then-byte-character
 returns-then-byte-character c = found_here _ _ _ c.loop-i-test.true refl c.if-byte-character.true ∙ c.loop-i.invariant.1
 

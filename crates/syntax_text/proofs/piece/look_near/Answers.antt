@@ -15,6 +15,3 @@ returns-else-x-end_of c = set_out c.requires.inner.0 c.requires.inner.1
 
 pub returns-else-found-x : goal.returns-else-found-x
 returns-else-found-x c = set_out c.requires.inner.0 c.requires.inner.1
-
-pub returns-else-likely-child_count : goal.returns-else-likely-child_count
-returns-else-likely-child_count c = set_out c.requires.inner.0 c.requires.inner.1

@@ -1,18 +1,11 @@
 -- `recall` meets its contract.
 use native.Mathlib.Omega.{arith}
-use mathlib.Core.Path.{sym, ap}
+use mathlib.Core.Path.{ap}
 use mathlib.Core.List.{◌++◌}
 use lib.ListN.{drop}
 use Prim.Native.Nat.{◌-◌}
-use Rattle.syntax_text_chunks.specs.Chunks.{depth_of}
-use Rattle.syntax_text_chunks.proofs.Keeping.{looked_for, kept_anywhere, kept_copied}
+use Rattle.syntax_text_chunks.proofs.Keeping.{kept_anywhere, kept_copied}
 use Rattle.syntax_text_chunks.proofs.chunks.recall.Goals as goal
-
-pub returns-in-Some : goal.returns-in-Some
-returns-in-Some c = looked_for c.nth-found.ensures (sym (ap depth_of c.in-Some.is))
-
-pub returns-in-None : goal.returns-in-None
-returns-in-None c = looked_for c.nth-found.ensures (sym (ap depth_of c.in-None.is))
 
 pub returns-then-n-gt64 : goal.returns-then-n-gt64
 returns-then-n-gt64 c = kept_anywhere (c.requires.placed.3 _ (omega (arith, c.if-kept-eq0.false))) c.if-n-gt64.true _

@@ -1,30 +1,18 @@
 -- `turn` meets its contract.
 use native.Mathlib.Omega.{arith}
-use Rattle.cursor.proofs.Positions.{inner, leaf}
-use Rattle.syntax_text_chunks.proofs.Turning.{leads_there, past_range, token_found, child_first, room_there, into_node, pass_token, pass_node, went_on, went_out}
+use Rattle.cursor.proofs.Positions.{inner}
+use Rattle.syntax_text_chunks.proofs.Turning.{leads_there, past_range, room_there, into_node, pass_token, pass_node, went_on, went_out}
 use Rattle.syntax_text_chunks.proofs.place.turn.Goals as goal
 use Rattle.syntax_text_chunks.proofs.place.turn.Goals.{in-Node+else-child_count-gt0, in_default+else-start-end_of}
 
 pub returns-then-end-at : goal.returns-then-end-at
 returns-then-end-at c = past_range c.requires.reaches _ _ c.if-end-at.true
 
-pub child_count-requires : goal.child_count-requires
-child_count-requires c = inner c.requires.reaches.placed c.node_or_token.ensures c.in-Node.is
-
-pub partition_point-before-requires : goal.partition_point-before-requires
-partition_point-before-requires c = inner c.requires.reaches.placed c.node_or_token.ensures c.in-Node.is
-
 pub bounds-place-depth : goal.bounds-place-depth
 bounds-place-depth c = room_there c.requires.reaches _ c.args.end (inner c.requires.reaches.placed c.node_or_token.ensures c.in-Node.is) c.partition_point-before.ensures (omega (arith, c.if-child_count-gt0.true, c.child_count.ensures.0)) c.requires.placed.2
 
-pub child-requires : goal.child-requires
-child-requires c = record { inner = inner c.requires.reaches.placed c.node_or_token.ensures c.in-Node.is; k_bound = omega (arith, c.saturating_sub-k.ensures, child_first c.requires.reaches _ c.args.end (inner c.requires.reaches.placed c.node_or_token.ensures c.in-Node.is) c.partition_point-before.ensures (omega (arith, c.if-child_count-gt0.true, c.child_count.ensures.0))) }
-
 pub returns-then-child_count-gt0 : goal.returns-then-child_count-gt0
 returns-then-child_count-gt0 c = into_node c.requires.reaches _ _ (inner c.requires.reaches.placed c.node_or_token.ensures c.in-Node.is) c.partition_point-before.ensures (omega (arith, c.if-child_count-gt0.true, c.child_count.ensures.0)) c.saturating_sub-k.ensures c.child.ensures c.requires.placed.2
-
-pub returns-then-start-end_of : goal.returns-then-start-end_of
-returns-then-start-end_of c = token_found c.requires.reaches _ _ (leaf c.requires.reaches.placed c.node_or_token.ensures c.in_default.is) c.end_of.ensures.0 c.if-start-end_of.true c.if-end-at.false
 
 pub go_down-way-requires : goal.go_down-way-requires
 go_down-way-requires c = record { placed = (c.requires.placed.0, c.requires.placed.1, omega (arith, c.requires.placed.2, c.requires.reaches.placed.deep)); leads_on = leads_there c.requires.reaches c.args.start c.args.end }

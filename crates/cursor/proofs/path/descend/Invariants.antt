@@ -1,6 +1,0 @@
-use Rattle.green.specs.View.{view}
-use Rattle.cursor.proofs.Paths.{Gone}
-use Rattle.cursor.proofs.path.descend.Given as goal
-
-abbrev pub invariant-loop-index : goal.invariant-loop-index
-invariant-loop-index l = Gone (view l.store) l.remember l.root l.depth l.path l.at l.remembered l.index-index
