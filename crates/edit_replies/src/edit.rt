@@ -1,12 +1,12 @@
 // Calls 10 to 14. A call's words are read first, and then it is put to the port, and then its reply is printed.
 
 ghost use Rattle.green.specs.Valid.{Valid};
-ghost use Rattle.green.specs.View.{view_edits, SameEditPlaces};
+ghost use Rattle.green.specs.View.{view_nodes, SameNodePlaces};
 
 use cursor::path::{MOST_INDEXES, Path};
 use files::out::Output;
 use green::Counts;
-use green::store_mut::EditStore;
+use green::store_mut::NodeStore;
 use replies::show::Shown;
 use script::call::Call;
 use script::fault::Fault;
@@ -22,10 +22,10 @@ fn put_made(out: &mut Output, made: Result<usize, Refusal>, used: &Counts) {
 }
 
 // Call 10: a node, an index among its children, and a new element.
-fn replace_child(call: &mut Call, out: &mut Output, store: &mut EditStore<'_>) -> Result<(), Fault>
-    requires { Valid (view_edits store.old) }
-    ensures valid { Valid (view_edits store.new) }
-    ensures same { SameEditPlaces store.old store.new }
+fn replace_child(call: &mut Call, out: &mut Output, store: &mut NodeStore<'_>) -> Result<(), Fault>
+    requires { Valid (view_nodes store.old) }
+    ensures valid { Valid (view_nodes store.new) }
+    ensures same { SameNodePlaces store.old store.new }
 {
     call.exactly(3)?;
     let node = call.word()? as usize;
@@ -37,10 +37,10 @@ fn replace_child(call: &mut Call, out: &mut Output, store: &mut EditStore<'_>) -
 }
 
 // Call 11: the same words.
-fn insert_child(call: &mut Call, out: &mut Output, store: &mut EditStore<'_>) -> Result<(), Fault>
-    requires { Valid (view_edits store.old) }
-    ensures valid { Valid (view_edits store.new) }
-    ensures same { SameEditPlaces store.old store.new }
+fn insert_child(call: &mut Call, out: &mut Output, store: &mut NodeStore<'_>) -> Result<(), Fault>
+    requires { Valid (view_nodes store.old) }
+    ensures valid { Valid (view_nodes store.new) }
+    ensures same { SameNodePlaces store.old store.new }
 {
     call.exactly(3)?;
     let node = call.word()? as usize;
@@ -52,10 +52,10 @@ fn insert_child(call: &mut Call, out: &mut Output, store: &mut EditStore<'_>) ->
 }
 
 // Call 12: a node, and an index among its children.
-fn remove_child(call: &mut Call, out: &mut Output, store: &mut EditStore<'_>) -> Result<(), Fault>
-    requires { Valid (view_edits store.old) }
-    ensures valid { Valid (view_edits store.new) }
-    ensures same { SameEditPlaces store.old store.new }
+fn remove_child(call: &mut Call, out: &mut Output, store: &mut NodeStore<'_>) -> Result<(), Fault>
+    requires { Valid (view_nodes store.old) }
+    ensures valid { Valid (view_nodes store.new) }
+    ensures same { SameNodePlaces store.old store.new }
 {
     call.exactly(2)?;
     let node = call.word()? as usize;
@@ -69,11 +69,11 @@ fn remove_child(call: &mut Call, out: &mut Output, store: &mut EditStore<'_>) ->
 fn splice_children(
     call: &mut Call,
     out: &mut Output,
-    store: &mut EditStore<'_>,
+    store: &mut NodeStore<'_>,
 ) -> Result<(), Fault>
-    requires { Valid (view_edits store.old) }
-    ensures valid { Valid (view_edits store.new) }
-    ensures same { SameEditPlaces store.old store.new }
+    requires { Valid (view_nodes store.old) }
+    ensures valid { Valid (view_nodes store.new) }
+    ensures same { SameNodePlaces store.old store.new }
 {
     let count = call.left.checked_sub(3).ok_or(Fault::Misfit)? as usize;
     if MOST_NEW < count {
@@ -91,10 +91,10 @@ fn splice_children(
 }
 
 // Call 14: a new element, and a path.
-fn replace_with(call: &mut Call, out: &mut Output, store: &mut EditStore<'_>) -> Result<(), Fault>
-    requires { Valid (view_edits store.old) }
-    ensures valid { Valid (view_edits store.new) }
-    ensures same { SameEditPlaces store.old store.new }
+fn replace_with(call: &mut Call, out: &mut Output, store: &mut NodeStore<'_>) -> Result<(), Fault>
+    requires { Valid (view_nodes store.old) }
+    ensures valid { Valid (view_nodes store.new) }
+    ensures same { SameNodePlaces store.old store.new }
 {
     let new = call.word()? as usize;
     let mut path = [0u32; MOST_INDEXES];
@@ -114,11 +114,11 @@ pub fn answer(
     call: &mut Call,
     op: Op,
     out: &mut Output,
-    store: &mut EditStore<'_>,
+    store: &mut NodeStore<'_>,
 ) -> Option<Result<(), Fault>>
-    requires { Valid (view_edits store.old) }
-    ensures valid { Valid (view_edits store.new) }
-    ensures same { SameEditPlaces store.old store.new }
+    requires { Valid (view_nodes store.old) }
+    ensures valid { Valid (view_nodes store.new) }
+    ensures same { SameNodePlaces store.old store.new }
 {
     Some(match op {
         Op::ReplaceChild => replace_child(call, out, store),

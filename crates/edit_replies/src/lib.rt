@@ -6,7 +6,7 @@ ghost use Rattle.green.specs.Valid.{Valid};
 ghost use Rattle.green.specs.View.{view_events, SameEventPlaces};
 
 use files::out::Output;
-use green::store_mut::{EditStore, EventStore};
+use green::store_mut::{EventStore, NodeStore};
 use script::call::Call;
 use script::fault::Fault;
 use script::op::Op;
@@ -30,7 +30,7 @@ pub fn answer(
         Op::RunEvents => Some(runs::run_events(call, out, store)),
         _ => {
             // the text is lent as the other places are: a `&` of it would read the struct while they are lent
-            let mut store = EditStore {
+            let mut store = NodeStore {
                 records: &mut *store.records,
                 children: &mut *store.children,
                 text: &mut *store.text,

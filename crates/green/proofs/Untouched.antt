@@ -38,16 +38,18 @@ untouched_on {r} {s} {s'} v v' g u w = record {
 }
 
 -- a store that is lent to an event stays over the same places: over no call, and over two
-pub places_same : (s : StoreMut (MutBor (List ℕ))) → SameEventPlaces s s
+pub places_same : (s : StoreMut (MutBor (List ℕ)) (MutBor (List ℕ))) → SameEventPlaces s s
 places_same s = record {
-  places = record { records = refl; children = refl; used = refl };
+  places = record { records = refl; used = refl };
+  children = refl;
   text = refl;
   lengths = record { records = refl; children = refl; text = refl };
 }
 
-pub places_on : {r s s' : StoreMut (MutBor (List ℕ))} → SameEventPlaces r s → SameEventPlaces s s' → SameEventPlaces r s'
+pub places_on : {r s s' : StoreMut (MutBor (List ℕ)) (MutBor (List ℕ))} → SameEventPlaces r s → SameEventPlaces s s' → SameEventPlaces r s'
 places_on p q = record {
-  places = record { records = p.places.records ∙ q.places.records; children = p.places.children ∙ q.places.children; used = p.places.used ∙ q.places.used };
+  places = record { records = p.places.records ∙ q.places.records; used = p.places.used ∙ q.places.used };
+  children = p.children ∙ q.children;
   text = p.text ∙ q.text;
   lengths = record { records = q.lengths.records ∙ p.lengths.records; children = q.lengths.children ∙ p.lengths.children; text = q.lengths.text ∙ p.lengths.text };
 }

@@ -4,10 +4,11 @@ ghost use Rattle.std.specs.Prelude.{◌≡◌, false};
 ghost use Rattle.definitions.specs.Tree.{is_node, text};
 ghost use Rattle.definitions.specs.Entry.{tree_at};
 ghost use Rattle.green.specs.Store.{entries};
-ghost use Rattle.green.specs.View.{view};
-ghost use Rattle.green.specs.Valid.{Known};
+ghost use Rattle.green.specs.View.{view, view_tokens};
+ghost use Rattle.green.specs.Valid.{Known, Valid};
 
 use crate::Store;
+use crate::store_mut::StoreMut;
 
 impl<'t> Store<'_, 't> {
     // The bytes of a token: the part of the lent text itself.
@@ -18,5 +19,20 @@ impl<'t> Store<'_, 't> {
         let first = self.first_of(n);
         let count = self.count_of(n);
         &self.text[first..first + count]
+    }
+}
+
+impl StoreMut<'_, &[u64], &mut [u8]> {
+    pub fn read(&self) -> Store<'_, '_>
+        requires { Valid (view_tokens self.now) }
+        ensures { view result ≡ view_tokens self.now }
+    {
+        let children = self.children;
+        Store {
+            text: self.text,
+            used: self.used,
+            children,
+            records: self.records,
+        }
     }
 }

@@ -7,7 +7,7 @@ ghost use Rattle.std.specs.Prelude.{◌≡◌, true};
 ghost use Rattle.definitions.specs.Entry.{token_entry, node_entry};
 ghost use Rattle.definitions.specs.NodeCache.{share};
 ghost use Rattle.green.specs.Store.{entries};
-ghost use Rattle.green.specs.View.{view, view_events, event_stores, SameEventPlaces};
+ghost use Rattle.green.specs.View.{view, view_nodes, view_tokens, node_stores, token_stores, SameNodePlaces, SameTokenPlaces};
 ghost use Rattle.green.specs.Valid.{AllEvents, Valid};
 ghost use Rattle.green_new.specs.Ready.{has_room};
 ghost use Rattle.green_new.specs.Done.{Does};
@@ -15,7 +15,7 @@ ghost use Rattle.green_new.specs.Done.{Does};
 pub mod search;
 
 use green::Store;
-use green::store_mut::EventStore;
+use green::store_mut::{NodeStore, TokenStore};
 use green_new::{limits, measure, node, token};
 use utility_types::{Refusal, SyntaxKind};
 
@@ -27,11 +27,10 @@ fn has_event_room(store: Store<'_, '_>, places: usize, bytes: usize) -> bool
 }
 
 // A token event.
-pub fn token(store: &mut EventStore<'_>, kind: SyntaxKind, src: &[u8]) -> Result<usize, Refusal>
-    requires { Valid (view_events store.old) }
-    ensures does { Does (event_stores store) (λ l es. share l es (token_entry kind.0 src.now)) result }
-    ensures same { SameEventPlaces store.old store.new }
-    ensures children_stay { store.new.children.now ≡ store.old.children.now }
+pub fn token(store: &mut TokenStore<'_>, kind: SyntaxKind, src: &[u8]) -> Result<usize, Refusal>
+    requires { Valid (view_tokens store.old) }
+    ensures does { Does (token_stores store) (λ l es. share l es (token_entry kind.0 src.now)) result }
+    ensures same { SameTokenPlaces store.old store.new }
 {
     let x = measure::of_token(kind, src);
     let lent = store.read();
@@ -51,11 +50,10 @@ pub fn token(store: &mut EventStore<'_>, kind: SyntaxKind, src: &[u8]) -> Result
 }
 
 // A finish-node event over `numbers`, which name what events made. One over too many is not looked for: more than three are never shared.
-pub fn node(store: &mut EventStore<'_>, kind: SyntaxKind, numbers: &[u32]) -> Result<usize, Refusal>
-    requires { Valid (view_events store.old) × AllEvents (entries (view_events store.old)) numbers.now }
-    ensures does { Does (event_stores store) (λ l es. share l es (node_entry true es kind.0 numbers.now)) result }
-    ensures same { SameEventPlaces store.old store.new }
-    ensures text_stays { store.new.text.now ≡ store.old.text.now }
+pub fn node(store: &mut NodeStore<'_>, kind: SyntaxKind, numbers: &[u32]) -> Result<usize, Refusal>
+    requires { Valid (view_nodes store.old) × AllEvents (entries (view_nodes store.old)) numbers.now }
+    ensures does { Does (node_stores store) (λ l es. share l es (node_entry true es kind.0 numbers.now)) result }
+    ensures same { SameNodePlaces store.old store.new }
 {
     let count = numbers.len();
     if limits::MAX_CHILDREN < count {

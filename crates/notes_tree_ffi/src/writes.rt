@@ -1,13 +1,13 @@
 // The calls that write a store: the run of a sheet, and one edit.
 
-ghost use Rattle.green.specs.View.{view_edits, view_events, edit_stores, event_stores, SameEditPlaces, SameEventPlaces};
+ghost use Rattle.green.specs.View.{view_nodes, view_events, node_stores, event_stores, SameNodePlaces, SameEventPlaces};
 ghost use Rattle.sheet_run.specs.RunDone.{list};
 ghost use Rattle.notes_tree_ffi.specs.Goes.{HasHistory};
 ghost use Rattle.notes_tree_ffi.specs.Exports.{RunExported, edit_of, EditExported};
 
 use abi::{Words, answer};
 use cursor::path::Path;
-use green::store_mut::{EditStore, EventStore};
+use green::store_mut::{EventStore, NodeStore};
 
 // Does nothing: an array that is lent as a slice shows its length to the proof.
 fn show(_words: &[u32]) {}
@@ -31,7 +31,7 @@ pub fn notes_run(
 
 // One edit, by its code. C gives the code, so any number may come.
 pub fn notes_edit(
-    store: &mut EditStore<'_>,
+    store: &mut NodeStore<'_>,
     code: usize,
     number: usize,
     from: usize,
@@ -40,9 +40,9 @@ pub fn notes_edit(
     path: &[u32; 64],
     words: &mut Words,
 ) -> usize
-    requires { HasHistory (view_edits store.old) }
-    ensures exported { EditExported (edit_stores store) (edit_of code number from to news.now path.now) (list words) result }
-    ensures same { SameEditPlaces store.old store.new }
+    requires { HasHistory (view_nodes store.old) }
+    ensures exported { EditExported (node_stores store) (edit_of code number from to news.now path.now) (list words) result }
+    ensures same { SameNodePlaces store.old store.new }
 {
     let made = match code {
         0 => edits::replace_child(store, number, from, to),

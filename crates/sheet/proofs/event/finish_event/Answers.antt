@@ -2,6 +2,8 @@
 use mathlib.Core.Path.{refl}
 use Rattle.definitions.proofs.Judging.{finish_kind, finish_operand, finish_good}
 use Rattle.builder.proofs.Steps.{stepped_refused}
+use borrow.Author.Rules.{rules}
+use Rattle.sheet.proofs.Parts.{of_parts}
 use Rattle.sheet.proofs.event.finish_event.Goals as goal
 
 pub returns-then-kind-ne0-clause-does : goal.returns-then-kind-ne0-clause-does
@@ -11,4 +13,4 @@ pub returns-then-operand-ne0-clause-does : goal.returns-then-operand-ne0-clause-
 returns-then-operand-ne0-clause-does c = λ left. stepped_refused c.requires (finish_operand _ _ _ _ _ c.if-kind-ne0.false c.if-operand-ne0.true) refl
 
 pub returns-clause-does : goal.returns-clause-does
-returns-clause-does c = λ left. rw (finish_good _ _ _ _ _ c.if-kind-ne0.false c.if-operand-ne0.false) c.finish_node.ensures.does
+returns-clause-does c = λ left. rw (finish_good _ _ _ _ _ c.if-kind-ne0.false c.if-operand-ne0.false) (of_parts c.finish_node.ensures.does (search rules) (search rules) (search rules) (search rules))

@@ -3,6 +3,8 @@ use mathlib.Core.Path.{refl, sym, ◌∙◌}
 use borrow.Author.Tests.{not-true, not-false}
 use Rattle.definitions.proofs.Judging.{text_short, text_bad, text_good}
 use Rattle.builder.proofs.Steps.{stepped_refused}
+use borrow.Author.Rules.{rules}
+use Rattle.sheet.proofs.Parts.{of_parts}
 use Rattle.sheet.proofs.event.token_event.Goals as goal
 
 pub returns-then-left-len-clause-does : goal.returns-then-left-len-clause-does
@@ -12,4 +14,4 @@ pub returns-then-not-is_acceptable-clause-does : goal.returns-then-not-is_accept
 returns-then-not-is_acceptable-clause-does c = stepped_refused c.requires (text_bad _ _ _ _ _ c.if-left-len.false (sym c.is_acceptable.ensures ∙ not-true _ c.if-not-is_acceptable.true-raw)) refl
 
 pub returns-clause-does : goal.returns-clause-does
-returns-clause-does c = rw (text_good _ _ _ _ _ c.if-left-len.false (sym c.is_acceptable.ensures ∙ not-false _ c.if-not-is_acceptable.false-raw)) c.token.ensures.does
+returns-clause-does c = rw (text_good _ _ _ _ _ c.if-left-len.false (sym c.is_acceptable.ensures ∙ not-false _ c.if-not-is_acceptable.false-raw)) (of_parts c.token.ensures.does (search rules) (search rules) (search rules) (search rules))
