@@ -21,31 +21,34 @@ fn put_made(out: &mut Output, made: Result<usize, Refusal>, used: &Counts) {
     out.put_line(format_args!("{} store {}", Shown(made), Shown(used)));
 }
 
-// Call 10: a node, an index among its children, and a new element.
+// A node, an index among its children, and a new element.
+fn read_child_edit(call: &mut Call) -> Result<(usize, usize, usize), Fault> {
+    call.exactly(3)?;
+    let node = call.word()? as usize;
+    let index = call.word()? as usize;
+    let new = call.word()? as usize;
+    Ok((node, index, new))
+}
+
+// Call 10: a child of a node exchanged.
 fn replace_child(call: &mut Call, out: &mut Output, store: &mut NodeStore<'_>) -> Result<(), Fault>
     requires { Valid (view_nodes store.old) }
     ensures valid { Valid (view_nodes store.new) }
     ensures same { SameNodePlaces store.old store.new }
 {
-    call.exactly(3)?;
-    let node = call.word()? as usize;
-    let index = call.word()? as usize;
-    let new = call.word()? as usize;
+    let (node, index, new) = read_child_edit(call)?;
     let made = edits::replace_child(store, node, index, new);
     put_made(out, made, store.used);
     Ok(())
 }
 
-// Call 11: the same words.
+// Call 11: a child put before another.
 fn insert_child(call: &mut Call, out: &mut Output, store: &mut NodeStore<'_>) -> Result<(), Fault>
     requires { Valid (view_nodes store.old) }
     ensures valid { Valid (view_nodes store.new) }
     ensures same { SameNodePlaces store.old store.new }
 {
-    call.exactly(3)?;
-    let node = call.word()? as usize;
-    let index = call.word()? as usize;
-    let new = call.word()? as usize;
+    let (node, index, new) = read_child_edit(call)?;
     let made = edits::insert_child(store, node, index, new);
     put_made(out, made, store.used);
     Ok(())
