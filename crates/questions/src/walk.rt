@@ -1,6 +1,6 @@
 // A walk that is kept.
 
-ghost use Rattle.std.specs.Prelude.{◌≡◌, ◌≤◌};
+ghost use Rattle.std.specs.Prelude.{◌≡◌, ◌≤◌, ◌<◌};
 
 use preorder::state::Coming;
 
@@ -17,13 +17,17 @@ pub struct Walk {
 }
 
 impl Walk {
-    // Something else comes next.
+    // Something else comes next. No walk has more than 64 indexes: one that would is over.
     pub fn go_to(&mut self, coming: Coming, depth: usize)
-        requires { depth ≤ 64 }
-        ensures next { (self.new.coming ≡ coming) × (self.new.depth ≡ depth) }
+        ensures next { depth ≤ 64 → (self.new.coming ≡ coming) × (self.new.depth ≡ depth) }
+        ensures over { 64 < depth → self.new.coming ≡ Coming.Ended }
         ensures kept { self.new.path ≡ self.old.path }
     {
-        self.coming = coming;
-        self.depth = depth;
+        if depth <= 64 {
+            self.coming = coming;
+            self.depth = depth;
+        } else {
+            self.coming = Coming::Ended;
+        }
     }
 }

@@ -1,15 +1,16 @@
 // The calls on one store.
 
-ghost use Rattle.std.specs.Prelude.{◌<◌, ◌≤◌, IfOk, IfSome};
+ghost use Rattle.std.specs.Prelude.{◌≡◌, ◌<◌, ◌≤◌, IfOk, IfSome};
 ghost use Rattle.green.specs.Valid.{Valid};
 ghost use Rattle.green.specs.View.{view_events, SameEventPlaces};
 
+use crate::room::Room;
 use crate::turns::Turns;
 use files::out::Output;
 use green::store_mut::EventStore;
 use questions::slots::Slots;
 use script::call::Call;
-use script::calls::MOST;
+use script::calls::Head;
 use script::fault::{Complaint, Fault};
 use script::op::Op;
 use script::store::Store;
@@ -21,28 +22,67 @@ fn next_store(call: &mut Call, out: &mut Output) -> Result<Store, Fault> {
     Ok(store)
 }
 
-// Any other call on a store.
+// A call on a store: all its words are read before anything is written or printed. The store that comes next, if it asks for one.
 fn answer(
     call: &mut Call,
     out: &mut Output,
     store: &mut EventStore<'_>,
     slots: &mut Slots,
-) -> Result<(), Fault>
+) -> Result<Option<Store>, Fault>
     requires { Valid (view_events store.old) }
     ensures valid { Valid (view_events store.new) }
     ensures same { SameEventPlaces store.old store.new }
 {
-    if let Some(answered) = edit_replies::answer(call, out, store) {
-        return answered;
+    if let Some(Op::Store) = call.op {
+        return next_store(call, out).map(Some);
     }
-    query_replies::answer(call, out, store.read(), slots)
+    if let Some(answered) = edit_replies::answer(call, out, store) {
+        return answered.map(|()| None);
+    }
+    query_replies::answer(call, out, store.read(), slots)?;
+    Ok(None)
+}
+
+// The same with those of its words that have come, none at first, and again when more have: from a pipe they come bit by bit, and a call that is at fault
+// is told as soon as the word has come that shows it.
+fn answer_coming(
+    turns: &mut Turns,
+    head: Head,
+    room: &mut Room,
+    out: &mut Output,
+    store: &mut EventStore<'_>,
+    slots: &mut Slots,
+) -> Result<Option<Store>, Fault>
+    requires { Valid (view_events store.old) }
+    ensures valid { Valid (view_events store.new) }
+    ensures same { SameEventPlaces store.old store.new }
+    ensures kept { turns.new.next ≡ turns.old.next }
+{
+    let mut came = 0;
+    let mut answered = answer(&mut head.call(&[]), out, store, slots);
+    while let Err(Fault::Ends) = answered {
+        let words = match room.place(came, head.size()) {
+            Ok(words) => words,
+            Err(error) => {
+                turns.fail(error);
+                break;
+            }
+        };
+        let more = turns.words(&mut words[came..]);
+        if more == 0 {
+            break;
+        }
+        came += more;
+        answered = answer(&mut head.call(&words[..came]), out, store, slots);
+    }
+    answered
 }
 
 // The calls on a store that is empty at first, as its slots are, up to the call that asks for the next one. That store, unless the
 // script is over.
 fn answer_all(
     turns: &mut Turns,
-    words: &mut [u8; MOST],
+    room: &mut Room,
     out: &mut Output,
     store: &mut EventStore<'_>,
 ) -> Result<Option<Store>, Complaint>
@@ -52,13 +92,14 @@ fn answer_all(
     ensures same { SameEventPlaces store.old store.new }
 {
     let mut slots = Slots::default();
-    while let Some(mut call) = turns.next_call(words)? {
-        let place = call.place;
-        let complain = |fault| Complaint { place, fault };
-        if let Some(Op::Store) = call.op {
-            return next_store(&mut call, out).map(Some).map_err(complain);
+    while let Some(head) = turns.next_head()? {
+        let place = head.place;
+        let answered = answer_coming(turns, head, room, out, store, &mut slots);
+        match answered {
+            Ok(None) => {}
+            Ok(next) => return Ok(next),
+            Err(fault) => return Err(Complaint { place, fault }),
         }
-        answer(&mut call, out, store, &mut slots).map_err(complain)?;
     }
     Ok(None)
 }
@@ -67,7 +108,7 @@ fn answer_all(
 // a part of a slice from one struct into another.
 pub fn on_store(
     turns: &mut Turns,
-    words: &mut [u8; MOST],
+    room: &mut Room,
     out: &mut Output,
     records: &mut [u64],
     children: &mut [u64],
@@ -87,5 +128,5 @@ pub fn on_store(
         text: &mut text[..t],
         used: &mut used,
     };
-    answer_all(turns, words, out, &mut store)
+    answer_all(turns, room, out, &mut store)
 }

@@ -1,14 +1,15 @@
 // The program `replay`: puts the calls of a script (docs/REPLAY.md) to the port, and prints the replies. Here the file and
-// the script's stores, in `turns` how its calls are read, in `calls` the calls on one store.
+// the script's stores, in `turns` how its calls are read, in `room` where their words are put, in `calls` the calls on one store.
 
 #![tactic(auto)]
 
 mod calls;
+mod room;
 mod turns;
 
 use files::arguments;
 use files::out::Output;
-use script::calls::MOST;
+use room::Room;
 use script::fault::{Complaint, Fault};
 use script::store::Store;
 use std::fs::File;
@@ -18,14 +19,14 @@ use turns::Turns;
 // The script's stores in turn.
 fn stores(
     turns: &mut Turns,
-    words: &mut [u8; MOST],
+    room: &mut Room,
     out: &mut Output,
     records: &mut [u64],
     children: &mut [u64],
     text: &mut [u8],
 ) -> Result<(), Complaint> {
     let mut store = Store::default();
-    while let Some(next) = calls::on_store(turns, words, out, records, children, text, store)? {
+    while let Some(next) = calls::on_store(turns, room, out, records, children, text, store)? {
         store = next;
     }
     Ok(())
@@ -51,12 +52,12 @@ fn replay(rt: HostRuntime, file: File) {
     let mut records = [0u64; 65600];
     let mut children = [0u64; 16400];
     let mut text = [0u8; 65600];
-    let mut words = [0u8; MOST];
+    let mut room = Room::new(rt);
     let mut out = Output::new(rt);
     let mut turns = Turns::new(file);
     let replied = stores(
         &mut turns,
-        &mut words,
+        &mut room,
         &mut out,
         &mut records,
         &mut children,

@@ -1,13 +1,13 @@
 // A script in an open file. Each call is read when its turn comes, so that the calls before it are answered first.
 
-ghost use Rattle.std.specs.Prelude.{◌≡◌, ◌+◌, ◌*◌, ◌≤◌, IfOk, IfSome};
+ghost use Rattle.std.specs.Prelude.{◌≡◌, ◌+◌, ◌*◌, ◌≤◌, length, IfOk, IfSome};
 
 use files::Part;
-use script::call::Call;
-use script::calls::{Head, MOST};
+use script::calls::Head;
 use script::fault::{Complaint, Fault, Place};
 use std::fs::File;
 use std::io;
+use std::io::Read;
 
 // The next call stands at `next`. Where no more can be read, `read` has the reason.
 #[derive(Drop)]
@@ -46,13 +46,10 @@ impl Turns {
         }
     }
 
-    // The next call, unless the script is over. Its words are put at the start of a lent place, which has room for those of any call.
-    pub fn next_call<'a>(
-        &mut self,
-        words: &'a mut [u8; MOST],
-    ) -> Result<Option<Call<'a>>, Complaint>
-        ensures place { IfOk result (λ next. IfSome next (λ call. call.place ≡ self.old.next)) }
-        ensures next { IfOk result (λ next. IfSome next (λ call. self.new.next.byte ≡ self.old.next.byte + 8 + 4 * call.left)) }
+    // The same, and the one after it stands next. Its words are left to `words`.
+    pub fn next_head(&mut self) -> Result<Option<Head>, Complaint>
+        ensures place { IfOk result (λ next. IfSome next (λ head. head.place ≡ self.old.next)) }
+        ensures next { IfOk result (λ next. IfSome next (λ head. self.new.next.byte ≡ self.old.next.byte + 8 + 4 * head.words)) }
         ensures most { IfOk result (λ next. IfSome next (λ _. self.new.next.byte ≤ 1000000)) }
     {
         let place = self.next;
@@ -61,9 +58,31 @@ impl Turns {
             return Ok(None);
         };
         self.next = head.next();
-        let words = &mut words[..head.size()];
-        let Part { count, ended } = files::read_part(&mut self.file, words);
-        self.read = ended;
-        Ok(Some(head.call(&words[..count])))
+        Ok(Some(head))
+    }
+
+    // Puts the bytes that come next at the start of a lent place: how many there are, fewer than it takes where the script ends or comes through a pipe.
+    // None come where it has ended, or where no more can be read.
+    pub fn words(&mut self, buf: &mut [u8]) -> usize
+        ensures count { result ≤ length buf.new }
+        ensures kept { self.new.next ≡ self.old.next }
+    {
+        if buf.is_empty() {
+            return 0;
+        }
+        match self.file.read(buf) {
+            Ok(count) => count,
+            Err(error) => {
+                self.read = Err(error);
+                0
+            }
+        }
+    }
+
+    // No more can be read, for this reason.
+    pub fn fail(&mut self, error: io::Error)
+        ensures { self.new.next ≡ self.old.next }
+    {
+        self.read = Err(error);
     }
 }

@@ -1,5 +1,5 @@
-// A call and those of its words that were not read yet. Each word is read once: a method takes what it answers off the front, and after
-// a fault the script is over.
+// A call and those of its words that were not read yet. A method takes what it answers off the front, so that each word is read once. A call whose words
+// have not all come is read again from its first one when more have; after another fault the script is over.
 
 ghost use Rattle.std.specs.Prelude.{◌≡◌, ◌+◌, ◌*◌, ◌≤◌, ◌<◌, ◌↔◌, ◌≢◌, length, take, drop, IsOk, IfOk, IsErrOf};
 ghost use Rattle.std.specs.Int.{w32, from_le_bytes};
@@ -8,7 +8,7 @@ ghost use Rattle.script.specs.Words.{words};
 use crate::fault::{Fault, Place};
 use crate::op::Op;
 
-// A call of a number that is not known has no `op`. `left` of its words come next in `rest`, unless the script ends before.
+// A call of a number that is not known has no `op`. `left` of its words come next; `rest` has those of them that have come.
 #[derive(Clone, Copy)]
 pub struct Call<'a> {
     pub place: Place,

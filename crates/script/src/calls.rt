@@ -55,7 +55,7 @@ impl Head {
         }
     }
 
-    // The call of this head whose arguments' words are these bytes. There are fewer of them where the script ends before.
+    // The call of this head whose arguments' words begin with these bytes, which are those that have come.
     pub fn call(self, rest: &[u8]) -> Call<'_>
         ensures place { (result.place ≡ self.place) × (result.op ≡ self.op) }
         ensures words { (result.left ≡ self.words) × (result.rest.now ≡ rest.now) }

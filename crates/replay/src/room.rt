@@ -1,0 +1,69 @@
+// Where the words of a call are put.
+
+ghost use Rattle.std.specs.Prelude.{◌≡◌, ◌≤◌, length, IfOk};
+
+use std::io;
+
+// The words of a run with the longest sheet and text of a script.
+pub const USUAL: usize = 98548;
+
+// The first words of a call are on the stack, and all of them where they fit. Those of a longer call go to the heap only if these leave open how it is
+// answered, that is where its path is too long for any element, or where it is not offered: on the stack they would want twice as much of it.
+#[derive(Drop)]
+pub struct Room {
+    usual: [u8; USUAL],
+    long: Vec<u8>,
+}
+
+fn copy_front(from: &[u8], to: &mut [u8]) {
+    for (place, byte) in to.iter_mut().zip(from) {
+        *place = *byte;
+    }
+}
+
+impl Room {
+    pub fn new(rt: HostRuntime) -> Room {
+        Room {
+            usual: [0; USUAL],
+            long: Vec::new(rt.alloc()),
+        }
+    }
+
+    // A place for a call's `size` bytes, or for the first of them. The first `came` of these, which were put into the place that was given before, are in it
+    // again, and it goes on past them unless they are all.
+    pub fn place(&mut self, came: usize, size: usize) -> io::Result<&mut [u8]>
+        ensures fits { came ≤ size → IfOk result (λ place. came ≤ length place.now) }
+        ensures most { IfOk result (λ place. length place.now ≤ size) }
+    {
+        if came < USUAL || size <= USUAL {
+            let size = size.min(USUAL);
+            return Ok(&mut self.usual[..size]);
+        }
+        self.long.resize(size, 0)?;
+        let long = &mut self.long[..size];
+        if came == USUAL {
+            copy_front(&self.usual, long);
+        }
+        Ok(long)
+    }
+}
+
+#[cfg(test)]
+mod tests {
+    use super::*;
+
+    #[test]
+    fn long_calls_keep_their_first_words(rt: HostRuntime) {
+        let mut room = Room::new(rt);
+        if let Ok(first) = room.place(0, USUAL + 4) {
+            first.fill(7);
+        }
+        let all = room
+            .place(USUAL, USUAL + 4)
+            .map(|words| (words.len(), words.first().copied()));
+        assert!(rt;
+            matches!(all, Ok((98552, Some(7)))),
+            "all its words have a place"
+        );
+    }
+}
