@@ -1,6 +1,8 @@
 // Standard output through std's buffer, so that a listing costs a write for each buffer and not one for each word.
 
 ghost use Rattle.std.specs.Prelude.{◌≡◌, [], None, IsSome, IfSome, OnOk, OnErr};
+ghost use Rattle.std.specs.Io.Buffered.{writer_contents};
+ghost use Rattle.std.specs.Io.KnownBytes.{Appends};
 ghost use Rattle.files.specs.Waiting.{waiting};
 
 use crate::tell;
@@ -17,7 +19,9 @@ enum Writer {
 
 // The buffer is filled to its last place before it is written, so that what a terminal shows between two writes does not depend on the pieces that a text
 // is put in. std's writer would write it before a piece that does not fit. A piece as long as the buffer is written as it is.
-fn fill(writer: &mut BufWriter<Stdout>, bytes: &[u8]) -> io::Result<()> {
+fn fill<W: Write + Drop>(writer: &mut BufWriter<W>, bytes: &[u8]) -> io::Result<()>
+    ensures { OnOk result (Appends (writer_contents W.contents writer.old) (writer_contents W.contents writer.new) bytes.now) }
+{
     let room = writer.capacity().saturating_sub(writer.buffer().len());
     let (first, rest) = bytes.split_at(room.min(bytes.len()));
     writer.write_all(first)?;

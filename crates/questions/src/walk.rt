@@ -20,8 +20,8 @@ impl Walk {
     // Something else comes next. No walk has more than 64 indexes: one that would is over.
     pub fn go_to(&mut self, coming: Coming, depth: usize)
         ensures next { depth ≤ 64 → (self.new.coming ≡ coming) × (self.new.depth ≡ depth) }
-        ensures over { 64 < depth → self.new.coming ≡ Coming.Ended }
-        ensures kept { self.new.path ≡ self.old.path }
+        ensures over { 64 < depth → (self.new.coming ≡ Coming.Ended) × (self.new.depth ≡ self.old.depth) }
+        ensures kept { (self.new.root ≡ self.old.root) × (self.new.tokens ≡ self.old.tokens) × (self.new.start ≡ self.old.start) × (self.new.path ≡ self.old.path) }
     {
         if depth <= 64 {
             self.coming = coming;

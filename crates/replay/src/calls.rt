@@ -64,7 +64,7 @@ fn answer_coming(
         let words = match room.place(came, head.size()) {
             Ok(words) => words,
             Err(error) => {
-                turns.fail(error);
+                turns.read = Err(error);
                 break;
             }
         };
@@ -94,11 +94,11 @@ fn answer_all(
     let mut slots = Slots::default();
     while let Some(head) = turns.next_head()? {
         let place = head.place;
-        let answered = answer_coming(turns, head, room, out, store, &mut slots);
-        match answered {
-            Ok(None) => {}
-            Ok(next) => return Ok(next),
-            Err(fault) => return Err(Complaint { place, fault }),
+        let next = answer_coming(turns, head, room, out, store, &mut slots).map_err(
+            |fault| Complaint { place, fault },
+        )?;
+        if next.is_some() {
+            return Ok(next);
         }
     }
     Ok(None)

@@ -1,24 +1,25 @@
 // Where the words of a call are put.
 
-ghost use Rattle.std.specs.Prelude.{◌≡◌, ◌≤◌, length, IfOk};
+ghost use Rattle.std.specs.Prelude.{◌≡◌, ◌++◌, ◌≤◌, ◌<◌, length, take, drop, IfOk};
 
 use std::io;
 
 // The words of a run with the longest sheet and text of a script.
-pub const USUAL: usize = 98548;
+const USUAL: usize = 98548;
 
-// The first words of a call are on the stack, and all of them where they fit. Those of a longer call go to the heap only if these leave open how it is
-// answered, that is where its path is too long for any element, or where it is not offered: on the stack they would want twice as much of it.
+// The first words of a call are on the stack, and all of them where they fit. The others go to the heap, as a stack with room for any call would be twice as
+// large: a call wants them only if the first ones leave open how it is answered, that is if its path is too long for any element, or if it is not offered.
 #[derive(Drop)]
 pub struct Room {
     usual: [u8; USUAL],
     long: Vec<u8>,
 }
 
-fn copy_front(from: &[u8], to: &mut [u8]) {
-    for (place, byte) in to.iter_mut().zip(from) {
-        *place = *byte;
-    }
+fn put_front(place: &mut [u8], first: &[u8])
+    requires { length first.now ≤ length place.old }
+    ensures { place.new ≡ first.now ++ drop (length first.now) place.old }
+{
+    place[..first.len()].copy_from_slice(first);
 }
 
 impl Room {
@@ -33,7 +34,10 @@ impl Room {
     // again, and it goes on past them unless they are all.
     pub fn place(&mut self, came: usize, size: usize) -> io::Result<&mut [u8]>
         ensures fits { came ≤ size → IfOk result (λ place. came ≤ length place.now) }
+        ensures further { came < size → IfOk result (λ place. came < length place.now) }
         ensures most { IfOk result (λ place. length place.now ≤ size) }
+        ensures first { came ≤ 98548 → came ≤ size → IfOk result (λ place. take came place.now ≡ take came self.old.usual) }
+        ensures others { 98548 < came → came ≤ size → came ≤ length self.old.long.items → IfOk result (λ place. take came place.now ≡ take came self.old.long.items) }
     {
         if came < USUAL || size <= USUAL {
             let size = size.min(USUAL);
@@ -41,9 +45,10 @@ impl Room {
         }
         self.long.resize(size, 0)?;
         let long = &mut self.long[..size];
-        if came == USUAL {
-            copy_front(&self.usual, long);
+        if USUAL < came {
+            return Ok(long);
         }
+        put_front(long, &self.usual);
         Ok(long)
     }
 }

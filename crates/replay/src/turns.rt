@@ -67,9 +67,6 @@ impl Turns {
         ensures count { result ≤ length buf.new }
         ensures kept { self.new.next ≡ self.old.next }
     {
-        if buf.is_empty() {
-            return 0;
-        }
         match self.file.read(buf) {
             Ok(count) => count,
             Err(error) => {
@@ -77,12 +74,5 @@ impl Turns {
                 0
             }
         }
-    }
-
-    // No more can be read, for this reason.
-    pub fn fail(&mut self, error: io::Error)
-        ensures { self.new.next ≡ self.old.next }
-    {
-        self.read = Err(error);
     }
 }
